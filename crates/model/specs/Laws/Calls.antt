@@ -1,0 +1,138 @@
+-- Laws of the calls on a world that is a tree: what each leaves, by the cases of its rule.
+--     insert-cases, insert-refused, insert-accepted
+--     remove-no, remove-yes; cleanup-done; query-short, query-done, query-holds
+use mathlib.Core.Path.{_≡_, refl, ap, sym, _∙_, subst}
+use mathlib.Core.Logic.{_⊎_, inl, inr}
+use mathlib.Core.List.{List, [], _++_}
+use mathlib.Core.Bool.{Bool, true, false, not, _||_}
+use Prim.Native.Nat.{ℕ, _+_, _≤_}
+use native.Mathlib.Decide.{decLe}
+use native.Mathlib.Omega.{arith}
+use lib.ListN.{length, drop}
+use lib.Dec.{eqb, ltb, T}
+use Rattle.geometry.specs.declared.aabb.AABB.{AABB}
+use Rattle.model.specs.Sums.{byDec}
+use Rattle.model.specs.Lists.{byBool, true-false}
+use Rattle.geometry.specs.Rectangles.{inverted, farOut}
+use Rattle.geometry.specs.Settings.{rootOf, contains, acceptable}
+use Rattle.model.specs.Trees.{size}
+use Rattle.model.specs.Shapes.{Shape, Valid, inserted, splitsFor, removed, foundBy, cleaned, cleans, listed, opensFor}
+use Rattle.model.specs.Layout.{World, Holds}
+use Rattle.model.specs.Calls.{Reply, tooMany, answered, refuse, overflow, accept, Exit, exit, carriedOut, Listed, insertRule, removeRule, cleanupRule, queryRule, Insert, Remove, Cleanup, Query}
+use Rattle.model.specs.Book.{accepted}
+use Rattle.model.specs.Laws.Remove.{eqb-same}
+use Rattle.model.specs.Laws.Shapes.{live-and-free, inserted-valid, removed-valid, cleaned-valid}
+use Rattle.model.specs.Laws.Layout.{layout-holds, cleared-holds, obeys-tree}
+
+-- the insert is refused, or what it needs is there
+abbrev pub Goes : ℕ → AABB → Shape → Type 0
+Goes id r x =
+    (acceptable (x .settings) r ≡ true) × (1 ≤ length (x .freePlaces)) × (splitsFor r x ≤ length (x .freeGroups))
+    × (insertRule id r x ≡ accept (inserted id r x) [] (splitsFor r x))
+
+pub ltb-no : (m n : ℕ) → ltb m n ≡ false → n ≤ m
+ltb-no m n e = lib.Dec.nltb→le m n (subst (λ (b : Bool). T (not b)) (sym e) tt)
+
+pub insert-cases : (id : ℕ) (r : AABB) (x : Shape) → Valid x → ((k : ℕ) × (insertRule id r x ≡ refuse k)) ⊎ Goes id r x
+unfolding insertRule acceptable
+insert-cases id r x v =
+    byBool (inverted r || farOut r)
+    (λ e₄. inl (4, rw e₄ refl))
+    (λ e₄.
+    byBool (contains (rootOf (x .settings)) r)
+    (λ e₅.
+    byBool (eqb (size (x .tree)) (x .places))
+    (λ e₆. inl (6, rw (e₄, e₅, e₆) refl))
+    (λ e₆.
+    byBool (ltb (length (x .freeGroups)) (splitsFor r x))
+    (λ e₇. inl (7, rw (e₄, e₅, e₆, e₇) refl))
+    (λ e₇.
+    let room : 1 ≤ length (x .freePlaces) =
+    byDec (decLe 1 (length (x .freePlaces))) (λ h. h)
+    (λ h. true-false (sym (eqb-eq (size (x .tree)) (x .places) (omega (arith, live-and-free x v))) ∙ e₆)) in
+    inr (rw (e₄, e₅) refl, room, ltb-no (length (x .freeGroups)) (splitsFor r x) e₇, rw (e₄, e₅, e₆, e₇) refl))))
+    (λ e₅. inl (5, rw (e₄, e₅) refl)))
+  where
+    eqb-eq : (m n : ℕ) → m ≡ n → eqb m n ≡ true
+    eqb-eq m n e = ap (λ (y : ℕ). eqb m y) (sym e) ∙ eqb-same m
+
+module _ {B A : Type 0} where
+  pub world-of : {e f : Exit B A} → e ≡ f → e .world ≡ f .world
+  world-of p = ap (λ e. e .world) p
+
+  pub row-of : {e f : Exit B A} → e ≡ f → e .row ≡ f .row
+  row-of p = ap (λ e. e .row) p
+
+  pub reply-of : {e f : Exit B A} → e ≡ f → e .reply ≡ f .reply
+  reply-of p = ap (λ e. e .reply) p
+
+-- the insert refused: the shape is as it was
+module _ (w : World) (id : ℕ) (r : AABB) (v : World) (reply : Reply ℕ) (call : Insert w id r v reply) (x : Shape) (h : Holds w x) where
+  pub insert-exit : exit v [] reply ≡ carriedOut w [] (insertRule id r x)
+  unfolding Insert
+  insert-exit = obeys-tree (insertRule id r) w [] (exit v [] reply) call x h
+
+  pub insert-refused : (k : ℕ) → insertRule id r x ≡ refuse k → Holds v x × (accepted reply ≡ false)
+  insert-refused k e =
+      let p = insert-exit ∙ ap (carriedOut w []) e in
+      (subst (λ (u : World). Holds u x) (sym (world-of p)) (cleared-holds w x h), ap accepted (reply-of p))
+
+  pub insert-accepted : Goes id r x → Holds v (inserted id r x) × (accepted reply ≡ true)
+  insert-accepted g =
+      let p = insert-exit ∙ ap (carriedOut w []) (g .3) in
+      let y = inserted id r x in (
+        subst (λ (u : World). Holds u y) (sym (world-of p)) (layout-holds y (inserted-valid id r x (h .valid) (g .0) (g .1) (g .2))),
+        ap accepted (reply-of p),
+      )
+
+module _ (w : World) (id : ℕ) (r : AABB) (v : World) (reply : Reply Bool) (call : Remove w id r v reply) (x : Shape) (h : Holds w x) where
+  pub remove-exit : exit v [] reply ≡ carriedOut w [] (removeRule id r x)
+  unfolding Remove
+  remove-exit = obeys-tree (removeRule id r) w [] (exit v [] reply) call x h
+
+  pub remove-no : foundBy id r x ≡ false → Holds v x × (reply ≡ answered false)
+  unfolding removeRule
+  remove-no e =
+      let z : removeRule id r x ≡ accept x [] false = rw e refl in
+      let p = remove-exit ∙ ap (carriedOut w []) z in
+      (subst (λ (u : World). Holds u x) (sym (world-of p)) (layout-holds x (h .valid)), reply-of p)
+
+  pub remove-yes : foundBy id r x ≡ true → Holds v (removed id r x) × (reply ≡ answered true)
+  unfolding removeRule
+  remove-yes e =
+      let y = removed id r x in
+      let z : removeRule id r x ≡ accept y [] true = rw e refl in
+      let p = remove-exit ∙ ap (carriedOut w []) z in
+      (subst (λ (u : World). Holds u y) (sym (world-of p)) (layout-holds y (removed-valid id r x (h .valid) e)), reply-of p)
+
+pub cleanup-done : (w v : World) (reply : Reply Bool) → Cleanup w v reply → (x : Shape) → Holds w x → Holds v (cleaned x) × (reply ≡ answered (cleans x))
+unfolding Cleanup cleanupRule
+cleanup-done w v reply call x h =
+    let p = obeys-tree cleanupRule w [] (exit v [] reply) call x h in
+    let y = cleaned x in
+    (subst (λ (u : World). Holds u y) (sym (world-of p)) (layout-holds y (cleaned-valid x (h .valid))), reply-of p)
+
+module _ (w : World) (q : AABB) (row : List ℕ) (v : World) (row′ : List ℕ) (reply : Reply Listed) (call : Query w q row v row′ reply) (x : Shape) (h : Holds w x) where
+  pub query-exit : exit v row′ reply ≡ carriedOut w row (queryRule q (length row) x)
+  unfolding Query
+  query-exit = obeys-tree (queryRule q (length row)) w row (exit v row′ reply) call x h
+
+  -- too short a row
+  pub query-short : ltb (length row) (length (listed q x)) ≡ true → Holds v x × (reply ≡ tooMany (length (listed q x)))
+  unfolding queryRule
+  query-short e =
+      let z : queryRule q (length row) x ≡ overflow (length (listed q x)) = rw e refl in
+      let p = query-exit ∙ ap (carriedOut w row) z in
+      (subst (λ (u : World). Holds u x) (sym (world-of p)) (cleared-holds w x h), reply-of p)
+
+  pub query-done : ltb (length row) (length (listed q x)) ≡ false
+      → Holds v x × (reply ≡ answered (record { hits = length (listed q x); opened = opensFor q x })) × (row′ ≡ listed q x ++ drop (length (listed q x)) row)
+  unfolding queryRule
+  query-done e =
+      let a : Listed = record { hits = length (listed q x); opened = opensFor q x } in
+      let z : queryRule q (length row) x ≡ accept x (listed q x) a = rw e refl in
+      let p = query-exit ∙ ap (carriedOut w row) z in
+      (subst (λ (u : World). Holds u x) (sym (world-of p)) (layout-holds x (h .valid)), reply-of p, row-of p)
+
+  pub query-holds : Holds v x
+  query-holds = byBool (ltb (length row) (length (listed q x))) (λ e. query-short e .0) (λ e. query-done e .0)

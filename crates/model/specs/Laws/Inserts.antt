@@ -1,0 +1,151 @@
+-- The insert's loop in the words: splits and steps down, then the push, keep the memory a tree and make it the tree of `insertAt`.
+--     Reach, sub-put, put-put, sub-snoc, put-snoc .. a path one step longer, a subtree put twice
+--     Left, turn-down, turn-split  what is left to do at the end of the path, and one turn of the loop
+--     insert-holds
+use mathlib.Core.Path.{_≡_, refl, ap, sym, _∙_, subst, fun-ext}
+use mathlib.Core.List.{List, [], _∷_, _++_}
+use mathlib.Core.Bool.{true}
+use Prim.Native.Nat.{ℕ, zero, suc, _+_, _-_, _≤_, _<_}
+use native.Mathlib.Decide.{ℕ-discrete}
+use native.Mathlib.Omega.{arith}
+use lib.ListN.{length}
+use Rattle.geometry.specs.declared.node_data.NodeData.{NodeData}
+use Rattle.model.specs.Sums.{changed, changed-same, changed-other, byDec}
+use Rattle.model.specs.Lists.{byBool}
+use Rattle.model.specs.Trees.{Dot, Tree, leaf, branch, childNode, Shallow}
+use Rattle.model.specs.Memory.{Mem}
+use Rattle.model.specs.Laws.Paths.{Children, sub, nodeAt, put}
+use Rattle.model.specs.Laws.Stores.{pushWords, push-holds, Stored}
+use Rattle.geometry.specs.declared.settings.Settings.{Settings}
+use Rattle.geometry.specs.Cells.{routeCell, mayDivide, childData}
+use Rattle.model.specs.Insert.{routeDot, dealt, Grown, mustSplit, splitsNeeded, insertAt}
+use Rattle.geometry.specs.Laws.Geometry.{route-child}
+use Rattle.model.specs.Laws.Splits.{splitTree, splitWords, split-holds}
+
+-- ---- a path one step longer; a subtree that was put
+
+-- the path stays in the tree
+abbrev pub Reach : Tree → List ℕ → Type 0
+Reach t [] = Unit {0}
+Reach (leaf c) (i ∷ p) = ⊥
+Reach (branch g f) (i ∷ p) = (i < 5) × Reach (f i) p
+
+pub reach-children : (t : Tree) (p : List ℕ) → Reach t p → Children p
+reach-children t [] r = tt
+reach-children (leaf c) (i ∷ p) r = absurd r
+reach-children (branch g f) (i ∷ p) r = (r .0, reach-children (f i) p (r .1))
+
+module _ (u : Tree) where
+  pub sub-put : (t : Tree) (p : List ℕ) → Reach t p → sub (put t p u) p ≡ u
+  sub-put t [] r = refl
+  sub-put (leaf c) (i ∷ p) r = absurd r
+  sub-put (branch g f) (i ∷ p) r = ap (λ (x : Tree). sub x p) (changed-same f i (put (f i) p u)) ∙ sub-put (f i) p (r .1)
+
+  pub node-put : (a : ℕ) (t : Tree) (p : List ℕ) → Reach t p → nodeAt a (put t p u) p ≡ nodeAt a t p
+  node-put a t [] r = refl
+  node-put a (leaf c) (i ∷ p) r = absurd r
+  node-put a (branch g f) (i ∷ p) r = ap (λ (x : Tree). nodeAt (childNode g i) x p) (changed-same f i (put (f i) p u)) ∙ node-put (childNode g i) (f i) p (r .1)
+
+  pub reach-put : (t : Tree) (p : List ℕ) → Reach t p → Reach (put t p u) p
+  reach-put t [] r = tt
+  reach-put (leaf c) (i ∷ p) r = absurd r
+  reach-put (branch g f) (i ∷ p) r = (r .0, subst (λ (x : Tree). Reach x p) (sym (changed-same f i (put (f i) p u))) (reach-put (f i) p (r .1)))
+
+changed-changed : {A : Type 0} (f : ℕ → A) (c : ℕ) (a b : A) → changed (changed f c a) c b ≡ changed f c b
+changed-changed {A} f c a b = fun-ext (λ j.
+    byDec (ℕ-discrete j c)
+    (λ e. ap (changed (changed f c a) c b) e ∙ changed-same (changed f c a) c b ∙ sym (ap (changed f c b) e ∙ changed-same f c b))
+    (λ ne. changed-other (changed f c a) c b j ne ∙ changed-other f c a j ne ∙ sym (changed-other f c b j ne)))
+
+pub put-put : (t : Tree) (p : List ℕ) (u v : Tree) → Reach t p → put (put t p u) p v ≡ put t p v
+put-put t [] u v r = refl
+put-put (leaf c) (i ∷ p) u v r = absurd r
+put-put (branch g f) (i ∷ p) u v r =
+    ap (λ (x : Tree). branch g (changed (changed f i (put (f i) p u)) i (put x p v))) (changed-same f i (put (f i) p u))
+    ∙ ap (λ (h : ℕ → Tree). branch g h) (changed-changed f i (put (f i) p u) (put (put (f i) p u) p v))
+    ∙ ap (λ (x : Tree). branch g (changed f i x)) (put-put (f i) p u v (r .1))
+
+module _ (g : ℕ) (f : ℕ → Tree) (i : ℕ) where
+  pub sub-snoc : (t : Tree) (p : List ℕ) → Reach t p → sub t p ≡ branch g f → sub t (p ++ i ∷ []) ≡ f i
+  sub-snoc t [] r e = ap (λ (x : Tree). sub x (i ∷ [])) e
+  sub-snoc (leaf c) (j ∷ p) r e = absurd r
+  sub-snoc (branch g′ f′) (j ∷ p) r e = sub-snoc (f′ j) p (r .1) e
+
+  pub node-snoc : (a : ℕ) (t : Tree) (p : List ℕ) → Reach t p → sub t p ≡ branch g f → nodeAt a t (p ++ i ∷ []) ≡ childNode g i
+  node-snoc a t [] r e = ap (λ (x : Tree). nodeAt a x (i ∷ [])) e
+  node-snoc a (leaf c) (j ∷ p) r e = absurd r
+  node-snoc a (branch g′ f′) (j ∷ p) r e = node-snoc (childNode g′ j) (f′ j) p (r .1) e
+
+  pub reach-snoc : (t : Tree) (p : List ℕ) → i < 5 → Reach t p → sub t p ≡ branch g f → Reach t (p ++ i ∷ [])
+  reach-snoc t [] b r e = subst (λ (x : Tree). Reach x (i ∷ [])) (sym e) (b, tt)
+  reach-snoc (leaf c) (j ∷ p) b r e = absurd r
+  reach-snoc (branch g′ f′) (j ∷ p) b r e = (r .0, reach-snoc (f′ j) p b (r .1) e)
+
+  pub put-snoc : (t : Tree) (p : List ℕ) (u : Tree) → Reach t p → sub t p ≡ branch g f → put t (p ++ i ∷ []) u ≡ put t p (branch g (changed f i u))
+  put-snoc t [] u r e = ap (λ (x : Tree). put x (i ∷ []) u) e
+  put-snoc (leaf c) (j ∷ p) u r e = absurd r
+  put-snoc (branch g′ f′) (j ∷ p) u r e = ap (λ (x : Tree). branch g′ (changed f′ j x)) (put-snoc (f′ j) p u (r .1) e)
+
+-- ---- the insert's loop: what is left to do at the end of the path, and one turn
+
+module _ (S : Settings) (d : Dot) where
+  -- the tree and the free groups that the insert ends with
+  abbrev pub Left : ℕ → NodeData → Tree → List ℕ → List ℕ → Grown
+  Left n c t p free = let r = insertAt S n c d (sub t p) free in record { tree = put t p (r .tree); free = r .free }
+
+  pub turn-down : (n : ℕ) (c : NodeData) (t : Tree) (p free : List ℕ) (g : ℕ) (f : ℕ → Tree) → Reach t p → sub t p ≡ branch g f
+      → let i = routeDot c d in Left (suc n) c t p free ≡ Left n (childData c i) t (p ++ i ∷ []) free
+  turn-down n c t p free g f r e =
+      let i = routeDot c d in
+      ap (λ (x : Tree). let y = insertAt S (suc n) c d x free in record { tree = put t p (y .tree); free = y .free }) e
+      ∙ sym (ap (λ (x : Tree). let y = insertAt S n (childData c i) d x free in record { tree = put t (p ++ i ∷ []) (y .tree); free = y .free }) (sub-snoc g f i t p r e)
+      ∙ ap (λ (x : Tree). record { tree = x; free = insertAt S n (childData c i) d (f i) free .free }) (put-snoc g f i t p (insertAt S n (childData c i) d (f i) free .tree) r e))
+
+  pub turn-split : (n : ℕ) (c : NodeData) (t : Tree) (p : List ℕ) (g : ℕ) (free : List ℕ) (ds : List Dot) → Reach t p → sub t p ≡ leaf ds → mustSplit S c ds ≡ true
+      → Left (suc n) c t p (g ∷ free) ≡ Left (suc n) c (put t p (splitTree c g ds)) p free
+  turn-split n c t p g free ds r e b =
+      let u = splitTree c g ds in
+      let y = insertAt S (suc n) c d u free in
+      let z : insertAt S (suc n) c d (leaf ds) (g ∷ free) ≡ y = rw b refl in
+      ap (λ (x : Tree). let y = insertAt S (suc n) c d x (g ∷ free) in record { tree = put t p (y .tree); free = y .free }) e
+      ∙ ap (λ (x : Grown). record { tree = put t p (x .tree); free = x .free }) z
+      ∙ sym (ap (λ (x : Tree). let y = insertAt S (suc n) c d x free in record { tree = put (put t p u) p (y .tree); free = y .free }) (sub-put u t p r)
+      ∙ ap (λ (x : Tree). record { tree = x; free = y .free }) (put-put t p u (y .tree) r))
+
+module _ (S : Settings) (G N : ℕ) (d : Dot) (spare : List ℕ) where
+  -- some memory holds the tree and the free groups that are to come
+  abbrev Done : Grown → Type 0
+  Done r = (w : Mem) × (groupHead : ℕ) × (placeHead : ℕ) × Stored G N w groupHead placeHead (r .tree) (r .free) spare
+
+  push : (n : ℕ) (c : NodeData) (m : Mem) (groupHead placeHead : ℕ) (t : Tree) (p free : List ℕ) (ds : List Dot) → Reach t p → sub t p ≡ leaf ds
+      → insertAt S n c d (leaf ds) free ≡ record { tree = leaf (d ∷ ds); free = free } → Stored G N m groupHead placeHead t free (d .place ∷ spare) → Done (Left S d n c t p free)
+  push n c m groupHead placeHead t p free ds r e x H =
+      let y : Left S d n c t p free ≡ record { tree = put t p (leaf (d ∷ ds)); free = free } =
+      ap (λ (u : Tree). let z = insertAt S n c d u free in record { tree = put t p (z .tree); free = z .free }) e
+      ∙ ap (λ (z : Grown). record { tree = put t p (z .tree); free = z .free }) x in
+      subst Done (sym y) (pushWords m (nodeAt 0 t p) d, groupHead, m .next (d .place), push-holds G N m groupHead placeHead t free spare p ds d (reach-children t p r) e H)
+
+  pub insert-holds : (n : ℕ) (c : NodeData) (m : Mem) (groupHead placeHead : ℕ) (t : Tree) (p free : List ℕ) (u : Tree) → sub t p ≡ u → Reach t p → Shallow n u
+      → splitsNeeded S n c (d .rect) u ≤ length free → Stored G N m groupHead placeHead t free (d .place ∷ spare) → Done (Left S d n c t p free)
+  insert-holds zero c m groupHead placeHead t p free (leaf ds) e r s k H = push zero c m groupHead placeHead t p free ds r e refl H
+  insert-holds zero c m groupHead placeHead t p free (branch g f) e r s k H = absurd s
+  insert-holds (suc n) c m groupHead placeHead t p [] (leaf ds) e r s k H = push (suc n) c m groupHead placeHead t p [] ds r e refl H
+  insert-holds (suc n) c m groupHead placeHead t p (g ∷ free) (leaf ds) e r s k H =
+      let i = routeDot c d in
+      let t₁ = put t p (splitTree c g ds) in
+      let r₁ = reach-put (splitTree c g ds) t p r in
+      let e₁ : sub t₁ p ≡ splitTree c g ds = sub-put (splitTree c g ds) t p r in
+      byBool (mustSplit S c ds)
+      (λ b.
+      let k₁ : splitsNeeded S n (childData c i) (d .rect) (dealt c ds i) ≤ length free = omega (arith, rw b at k) in
+      subst Done (sym (turn-split S d n c t p g free ds r e b ∙ turn-down S d n c t₁ p free g (dealt c ds) r₁ e₁))
+      (insert-holds n (childData c i) (splitWords c m (nodeAt 0 t p) g ds) (m .first (childNode g 0)) placeHead t₁ (p ++ i ∷ []) free (dealt c ds i)
+      (sub-snoc g (dealt c ds) i t₁ p r₁ e₁)
+      (reach-snoc g (dealt c ds) i t₁ p (route-child c (d .rect)) r₁ e₁) tt k₁
+      (split-holds c G N m groupHead placeHead t g free (d .place ∷ spare) p ds (reach-children t p r) e H)))
+      (λ b. push (suc n) c m groupHead placeHead t p (g ∷ free) ds r e (rw b refl) H)
+  insert-holds (suc n) c m groupHead placeHead t p free (branch g f) e r s k H =
+      let i = routeDot c d in
+      let ib = route-child c (d .rect) in
+      subst Done (sym (turn-down S d n c t p free g f r e))
+      (insert-holds n (childData c i) m groupHead placeHead t (p ++ i ∷ []) free (f i) (sub-snoc g f i t p r e) (reach-snoc g f i t p ib r e) (s i ib) k H)

@@ -1,0 +1,286 @@
+-- The relation of Memory and the function layout say the same of a valid shape.
+--     tree-of, chain-of, free-of; of-tree, of-chain, of-free       from the entries in the words to the relation, and back
+--     holds-represented    a world that holds x, read word by word, has the shape x
+--     represented-holds    and the other way round: the relation fixes every word, as the layout's
+use mathlib.Core.Path.{_≡_, refl, ap, sym, _∙_, subst, subst₂}
+use mathlib.Core.List.{List, [], _∷_, _++_, map}
+use Prim.Native.Nat.{ℕ, zero, suc, _+_, _*_, _-_, _/_, _%_, _≤_, _<_}
+use native.Mathlib.Decide.{ℕ-discrete}
+use native.Mathlib.Omega.{arith}
+use lib.IntN.{ℤ, pos}
+use lib.ListN.{length, getD, replicate}
+use lib.Seq.{ext-getD}
+use Rattle.geometry.specs.declared.aabb.AABB.{AABB}
+use Rattle.model.specs.declared.State.{State}
+use Rattle.model.specs.Sums.{sumOver, byDec}
+use Rattle.model.specs.Lists.{joinBelow, length-joinBelow, All, all-append, all-joinBelow, all-map, count}
+use Rattle.model.specs.Trees.{Dot, Tree, leaf, branch, childNode}
+use Rattle.model.specs.Shapes.{Shape, Valid}
+use Rattle.model.specs.Layout.{World, none, firstNode, firstDot, NodeEntry, PlaceEntry, treeNodes, freeGroupNodes, chainPlaces, treePlaces, blank, nodeEntries, placeEntries, nodeWords, dotWords, rectWords, placeRect, stateOf, layout, cleared, Holds}
+use Rattle.model.specs.Laws.Shapes.{below-le}
+use Rattle.model.specs.Laws.Layout.{two-node, two-dot, four-rect, layout-lengths, holds-all}
+use Rattle.model.specs.Memory.{Mem, memory, Chained, Represents, FreeGroups, Represented}
+use Rattle.model.specs.Laws.Entries.{getD-joinBelow, nodeIs, placeIs, each-found, finds, nodes-once, places-at, node-range, node-there, place-range, place-there}
+
+-- ---- lists of which all have a property
+
+all-split : {A : Type 0} (P : A → Type 0) (xs ys : List A) → All P (xs ++ ys) → All P xs × All P ys
+all-split P [] ys a = (tt, a)
+all-split P (x ∷ xs) ys a = let r = all-split P xs ys (a .1) in ((a .0, r .0), r .1)
+
+all-part : {A : Type 0} (P : A → Type 0) (n : ℕ) (f : ℕ → List A) → All P (joinBelow n f) → (i : ℕ) → i < n → All P (f i)
+all-part P zero f a i b = absurd (omega arith)
+all-part P (suc n) f a i b =
+    let r = all-split P (joinBelow n f) (f n) a in
+    byDec (ℕ-discrete i n) (λ e. subst (λ (y : ℕ). All P (f y)) (sym e) (r .1)) (λ ne. all-part P n f (r .0) i (omega arith))
+
+all-both : {A : Type 0} (P Q : A → Type 0) (xs : List A) → All P xs → All Q xs → All (λ x. P x × Q x) xs
+all-both P Q [] a b = tt
+all-both P Q (x ∷ xs) a b = ((a .0, b .0), all-both P Q xs (a .1) (b .1))
+
+-- ---- an entry stands in the words
+
+abbrev NodeStands : Mem → NodeEntry → Type 0
+NodeStands m e = m .first (e .node) ∷ m .count (e .node) ∷ [] ≡ e .first ∷ e .count ∷ []
+
+abbrev DotStands : Mem → PlaceEntry → Type 0
+DotStands m e = m .id (e .place) ∷ m .next (e .place) ∷ [] ≡ e .id ∷ e .next ∷ []
+
+abbrev RectStands : Mem → PlaceEntry → Type 0
+RectStands m e = m .rect (e .place) ≡ e .rect
+
+PlaceStands : Mem → PlaceEntry → Type 0
+PlaceStands m e = DotStands m e × RectStands m e
+
+first-word : (a b : List ℕ) → a ≡ b → getD a 0 0 ≡ getD b 0 0
+first-word a b e = ap (λ (l : List ℕ). getD l 0 0) e
+
+second-word : (a b : List ℕ) → a ≡ b → getD a 1 0 ≡ getD b 1 0
+second-word a b e = ap (λ (l : List ℕ). getD l 1 0) e
+
+-- from the entries to the relation
+
+chain-of : (m : Mem) (ds : List Dot) → All (PlaceStands m) (chainPlaces ds) → Chained m (firstDot ds) ds none
+unfolding PlaceStands
+chain-of m [] a = refl
+chain-of m (d ∷ ds) a =
+    (refl, first-word _ _ (a .0 .0), a .0 .1, subst (λ (n : ℕ). Chained m n ds none) (sym (second-word _ _ (a .0 .0))) (chain-of m ds (a .1)))
+
+tree-of : (m : Mem) (a : ℕ) (t : Tree) → All (NodeStands m) (treeNodes a t) → All (PlaceStands m) (treePlaces t) → Represents m a t
+tree-of m a (leaf c) n p = (second-word _ _ (n .0), subst (λ (h : ℕ). Chained m h c none) (sym (first-word _ _ (n .0))) (chain-of m c p))
+tree-of m a (branch g f) n p = (
+  second-word _ _ (n .0),
+  first-word _ _ (n .0),
+  λ i b. tree-of m (childNode g i) (f i)
+      (all-part (NodeStands m) 5 (λ j. treeNodes (childNode g j) (f j)) (n .1) i b)
+      (all-part (PlaceStands m) 5 (λ j. treePlaces (f j)) p i b),
+)
+
+free-of : (m : Mem) (gs : List ℕ) → All (NodeStands m) (freeGroupNodes gs) → FreeGroups m (firstNode gs) gs
+free-of m [] a = refl
+free-of m (g ∷ gs) a =
+    let E : ℕ → List NodeEntry = λ i. record { node = childNode g (1 + i); first = none; count = 0 } ∷ [] in
+    let r = all-split (NodeStands m) (joinBelow 4 E) (freeGroupNodes gs) (a .1) in
+    let each = all-part (NodeStands m) 4 E (r .0) in (
+      refl,
+      second-word _ _ (a .0),
+      (λ i low high.
+          let stands = each (i - 1) (omega arith) .0 in
+          let k : childNode g (1 + (i - 1)) ≡ childNode g i = omega arith in
+          subst (λ (y : ℕ). (m .first y ≡ none) × (m .count y ≡ 0)) k (first-word _ _ stands, second-word _ _ stands)),
+      subst (λ (h : ℕ). FreeGroups m h gs) (sym (first-word _ _ (a .0))) (free-of m gs (r .1)),
+    )
+
+-- and back
+
+two : (a b c d : ℕ) → a ≡ c → b ≡ d → _≡_ {A = List ℕ} (a ∷ b ∷ []) (c ∷ d ∷ [])
+two a b c d p q = λ i. p i ∷ q i ∷ []
+
+of-chain : (m : Mem) (h : ℕ) (ds : List Dot) → Chained m h ds none → (h ≡ firstDot ds) × All (PlaceStands m) (chainPlaces ds)
+unfolding PlaceStands
+of-chain m h [] c = (c, tt)
+of-chain m h (d ∷ ds) c = let r = of-chain m (m .next (d .place)) ds (c .3) in (c .0, ((two _ _ _ _ (c .1) (r .0), c .2), r .1))
+
+of-tree : (m : Mem) (a : ℕ) (t : Tree) → Represents m a t → All (NodeStands m) (treeNodes a t) × All (PlaceStands m) (treePlaces t)
+of-tree m a (leaf c) r = let x = of-chain m (m .first a) c (r .1) in ((two _ _ _ _ (x .0) (r .0), tt), x .1)
+of-tree m a (branch g f) r =
+    let each : (i : ℕ) → i < 5 → All (NodeStands m) (treeNodes (childNode g i) (f i)) × All (PlaceStands m) (treePlaces (f i)) = λ i b. of-tree m (childNode g i) (f i) (r .2 i b) in (
+      (two _ _ _ _ (r .1) (r .0), all-joinBelow (NodeStands m) 5 (λ i. treeNodes (childNode g i) (f i)) (λ i b. each i b .0)),
+      all-joinBelow (PlaceStands m) 5 (λ i. treePlaces (f i)) (λ i b. each i b .1),
+    )
+
+of-free : (m : Mem) (h : ℕ) (gs : List ℕ) → FreeGroups m h gs → (h ≡ firstNode gs) × All (NodeStands m) (freeGroupNodes gs)
+of-free m h [] r = (r, tt)
+of-free m h (g ∷ gs) r =
+    let E : ℕ → List NodeEntry = λ i. record { node = childNode g (1 + i); first = none; count = 0 } ∷ [] in
+    let rest = of-free m (m .first (childNode g 0)) gs (r .3) in (
+      r .0,
+      (
+        two _ _ _ _ (rest .0) (r .1),
+        all-append (NodeStands m) (joinBelow 4 E) (freeGroupNodes gs)
+            (all-joinBelow (NodeStands m) 4 E (λ i b. let e = r .2 (1 + i) (omega arith) (omega arith) in (two _ _ _ _ (e .0) (e .1), tt))) (rest .1),
+      ),
+    )
+
+-- ---- the layout, read word by word
+
+rect-words : (w : World) (p : ℕ) (r : AABB) → getD (w .rects) (4 * p + 0) (pos 0) ≡ r .x1 → getD (w .rects) (4 * p + 1) (pos 0) ≡ r .y1
+    → getD (w .rects) (4 * p + 2) (pos 0) ≡ r .x2 → getD (w .rects) (4 * p + 3) (pos 0) ≡ r .y2 → memory w .rect p ≡ r
+rect-words w p r a b c d = λ i. record { x1 = a i; y1 = b i; x2 = c i; y2 = d i }
+
+module _ (x : Shape) (v : Valid x) where
+  layout-nodes : All (NodeStands (memory (layout x))) (nodeEntries x)
+  unfolding layout
+  layout-nodes =
+      let es = nodeEntries x in
+      let row = joinBelow (1 + 5 * x .groups) (nodeWords es) in
+      all-map (λ e. (nodeWords es (e .node) ≡ e .first ∷ e .count ∷ []) × (1 ≤ sumOver (nodeIs (e .node)) es)) (NodeStands (memory (layout x)))
+      (λ e p.
+      let read : (j : ℕ) → j < 2 → getD row (2 * e .node + j) 0 ≡ getD (e .first ∷ e .count ∷ []) j 0 =
+      λ j b. getD-joinBelow 2 (1 + 5 * x .groups) (nodeWords es) (two-node es) (e .node) j 0 (node-range x v (e .node) (p .1)) b ∙ ap (λ (l : List ℕ). getD l j 0) (p .0) in
+      two _ _ _ _ (read 0 (omega arith)) (read 1 (omega arith)))
+      es
+      (each-found (λ e. e .node) (λ e. e .first ∷ e .count ∷ []) nodeWords (λ e es k. refl) es (nodes-once x v))
+
+  places-once : (k : ℕ) → sumOver (placeIs k) (placeEntries x) ≤ 1
+  places-once k = omega (arith, places-at x v k, below-le k (x .places))
+
+  layout-places : All (PlaceStands (memory (layout x))) (placeEntries x)
+  unfolding layout PlaceStands
+  layout-places =
+      let es = placeEntries x in
+      let n = x .places in
+      all-both (DotStands (memory (layout x))) (RectStands (memory (layout x))) es
+      (all-map (λ e. (dotWords es (e .place) ≡ e .id ∷ e .next ∷ []) × (1 ≤ sumOver (placeIs (e .place)) es)) (DotStands (memory (layout x)))
+      (λ e p.
+      let read : (j : ℕ) → j < 2 → getD (joinBelow n (dotWords es)) (2 * e .place + j) 0 ≡ getD (e .id ∷ e .next ∷ []) j 0 =
+      λ j b. getD-joinBelow 2 n (dotWords es) (two-dot es) (e .place) j 0 (place-range x v (e .place) (p .1)) b ∙ ap (λ (l : List ℕ). getD l j 0) (p .0) in
+      two _ _ _ _ (read 0 (omega arith)) (read 1 (omega arith)))
+      es (each-found (λ e. e .place) (λ e. e .id ∷ e .next ∷ []) dotWords (λ e es k. refl) es places-once))
+      (all-map (λ e. (placeRect es (e .place) ≡ rectWords (e .rect)) × (1 ≤ sumOver (placeIs (e .place)) es)) (RectStands (memory (layout x)))
+      (λ e p.
+      let read : (j : ℕ) → j < 4 → getD (joinBelow n (placeRect es)) (4 * e .place + j) (pos 0) ≡ getD (rectWords (e .rect)) j (pos 0) =
+      λ j b. getD-joinBelow 4 n (placeRect es) (four-rect es) (e .place) j (pos 0) (place-range x v (e .place) (p .1)) b ∙ ap (λ (l : List ℤ). getD l j (pos 0)) (p .0) in
+      rect-words (layout x) (e .place) (e .rect) (read 0 (omega arith)) (read 1 (omega arith)) (read 2 (omega arith)) (read 3 (omega arith)))
+      es (each-found (λ e. e .place) (λ e. rectWords (e .rect)) placeRect (λ e es k. refl) es places-once))
+
+  pub layout-represented : Represented (layout x) x
+  unfolding stateOf layout
+  layout-represented =
+      let m = memory (layout x) in
+      let l = layout-lengths x in
+      let n = all-split (NodeStands m) (treeNodes 0 (x .tree)) (freeGroupNodes (x .freeGroups)) layout-nodes in
+      let p = all-split (PlaceStands m) (treePlaces (x .tree)) (chainPlaces (map blank (x .freePlaces))) layout-places in
+      record {
+        nodes = l .nodes;
+        dots = l .dots;
+        rects = l .rects;
+        marks = l .marks;
+        tree = tree-of m 0 (x .tree) (n .0) (p .0);
+        groups = free-of m (x .freeGroups) (n .1);
+        places = chain-of m (map blank (x .freePlaces)) (p .1);
+        settings = refl;
+        live = refl;
+      }
+
+-- A world that holds x, read word by word, has the shape x.
+pub holds-represented : (w : World) (x : Shape) → Holds w x → Represented w x
+unfolding cleared
+holds-represented w x h =
+    let e : memory w ≡ memory (layout x) = ap memory (h .words) in
+    let s : w .state ≡ layout x .state = ap (λ (v : World). v .state) (h .words) in
+    let l = holds-all w x h in
+    let r = layout-represented x (h .valid) in
+    record {
+      nodes = l .nodes;
+      dots = l .dots;
+      rects = l .rects;
+      marks = l .marks;
+      tree = subst (λ (m : Mem). Represents m 0 (x .tree)) (sym e) (r .tree);
+      groups = subst₂ (λ (m : Mem) (t : State). FreeGroups m (t .«free_group») (x .freeGroups)) (sym e) (sym s) (r .groups);
+      places = subst₂ (λ (m : Mem) (t : State). Chained m (t .«free_place») (map blank (x .freePlaces)) none) (sym e) (sym s) (r .places);
+      settings = ap (λ (t : State). t .settings) s ∙ r .settings;
+      live = ap (λ (t : State). t .live) s ∙ r .live;
+    }
+
+-- ---- the relation fixes every word
+
+-- rows of pairs and of fours are equal by their words
+pairs-equal : (n : ℕ) (row : List ℕ) (f : ℕ → List ℕ) → length row ≡ 2 * n → ((k : ℕ) → length (f k) ≡ 2)
+    → ((k : ℕ) → k < n → f k ≡ getD row (2 * k + 0) 0 ∷ getD row (2 * k + 1) 0 ∷ []) → row ≡ joinBelow n f
+pairs-equal n row f l e at =
+    ext-getD 0 row (joinBelow n f) (omega (arith, l, length-joinBelow n 2 f e))
+    (λ i b.
+    let k : ℕ = i / 2 in
+    let j : ℕ = i % 2 in
+    let same : 2 * k + j ≡ i = omega arith in
+    let kn : k < n = omega (arith, l) in
+    let word : (j : ℕ) → j < 2 → getD row (2 * k + j) 0 ≡ getD (joinBelow n f) (2 * k + j) 0 =
+    λ j jb. small j jb k ∙ sym (getD-joinBelow 2 n f e k j 0 kn jb ∙ ap (λ (r : List ℕ). getD r j 0) (at k kn)) in
+    subst (λ (y : ℕ). getD row y 0 ≡ getD (joinBelow n f) y 0) same (word j (omega arith)))
+  where
+    small : (j : ℕ) → j < 2 → (k : ℕ) → getD row (2 * k + j) 0 ≡ getD (getD row (2 * k + 0) 0 ∷ getD row (2 * k + 1) 0 ∷ []) j 0
+    small zero b k = refl
+    small (suc zero) b k = refl
+    small (suc (suc j)) b k = absurd (omega arith)
+
+fours-equal : (n : ℕ) (row : List ℤ) (f : ℕ → List ℤ) → length row ≡ 4 * n → ((k : ℕ) → length (f k) ≡ 4)
+    → ((k : ℕ) → k < n → f k ≡ getD row (4 * k + 0) (pos 0) ∷ getD row (4 * k + 1) (pos 0) ∷ getD row (4 * k + 2) (pos 0) ∷ getD row (4 * k + 3) (pos 0) ∷ [])
+    → row ≡ joinBelow n f
+fours-equal n row f l e at =
+    ext-getD (pos 0) row (joinBelow n f) (omega (arith, l, length-joinBelow n 4 f e))
+    (λ i b.
+    let k : ℕ = i / 4 in
+    let j : ℕ = i % 4 in
+    let same : 4 * k + j ≡ i = omega arith in
+    let kn : k < n = omega (arith, l) in
+    let word : (j : ℕ) → j < 4 → getD row (4 * k + j) (pos 0) ≡ getD (joinBelow n f) (4 * k + j) (pos 0) =
+    λ j jb. small j jb k ∙ sym (getD-joinBelow 4 n f e k j (pos 0) kn jb ∙ ap (λ (r : List ℤ). getD r j (pos 0)) (at k kn)) in
+    subst (λ (y : ℕ). getD row y (pos 0) ≡ getD (joinBelow n f) y (pos 0)) same (word j (omega arith)))
+  where
+    small : (j : ℕ) → j < 4 → (k : ℕ) → getD row (4 * k + j) (pos 0)
+        ≡ getD (getD row (4 * k + 0) (pos 0) ∷ getD row (4 * k + 1) (pos 0) ∷ getD row (4 * k + 2) (pos 0) ∷ getD row (4 * k + 3) (pos 0) ∷ []) j (pos 0)
+    small zero b k = refl
+    small (suc zero) b k = refl
+    small (suc (suc zero)) b k = refl
+    small (suc (suc (suc zero))) b k = refl
+    small (suc (suc (suc (suc j)))) b k = absurd (omega arith)
+
+-- A world that, read word by word, has the valid shape x, holds x: its words are the layout's.
+pub represented-holds : (w : World) (x : Shape) → Valid x → Represented w x → Holds w x
+unfolding cleared layout stateOf PlaceStands
+represented-holds w x v r =
+    let m = memory w in
+    let t = of-tree m 0 (x .tree) (r .tree) in
+    let g = of-free m (w .state .«free_group») (x .freeGroups) (r .groups) in
+    let c = of-chain m (w .state .«free_place») (map blank (x .freePlaces)) (r .places) in
+    let ns = all-append (NodeStands m) (treeNodes 0 (x .tree)) (freeGroupNodes (x .freeGroups)) (t .0) (g .1) in
+    let ps = all-append (PlaceStands m) (treePlaces (x .tree)) (chainPlaces (map blank (x .freePlaces))) (t .1) (c .1) in
+    let es = nodeEntries x in
+    let fs = placeEntries x in
+    let ds = all-map (PlaceStands m) (DotStands m) (λ e p. p .0) fs ps in
+    let rs = all-map (PlaceStands m) (λ e. rectWords (m .rect (e .place)) ≡ rectWords (e .rect)) (λ e p. ap rectWords (p .1)) fs ps in
+    let nodes : w .nodes ≡ joinBelow (1 + 5 * x .groups) (nodeWords es) =
+    pairs-equal (1 + 5 * x .groups) (w .nodes) (nodeWords es) (omega (arith, r .nodes)) (two-node es)
+    (λ k b. finds (λ e. e .node) (λ e. e .first ∷ e .count ∷ []) nodeWords (λ e es k. refl) (λ k. m .first k ∷ m .count k ∷ []) es ns k (node-there x v k b)) in
+    let dots : w .dots ≡ joinBelow (x .places) (dotWords fs) =
+    pairs-equal (x .places) (w .dots) (dotWords fs) (r .dots) (two-dot fs)
+    (λ k b. finds (λ e. e .place) (λ e. e .id ∷ e .next ∷ []) dotWords (λ e es k. refl) (λ k. m .id k ∷ m .next k ∷ []) fs ds k (place-there x v k b)) in
+    let rects : w .rects ≡ joinBelow (x .places) (placeRect fs) =
+    fours-equal (x .places) (w .rects) (placeRect fs) (r .rects) (four-rect fs)
+    (λ k b. finds (λ e. e .place) (λ e. rectWords (e .rect)) placeRect (λ e es k. refl) (λ k. rectWords (m .rect k)) fs rs k (place-there x v k b)) in
+    let marks : replicate {A = ℕ} (length (w .marks)) 0 ≡ replicate (x .places + x .groups) 0 = ap (λ (n : ℕ). replicate {A = ℕ} n 0) (r .marks) in
+    let settings = r .settings in
+    let live = r .live in
+    let groupHead = g .0 in
+    let placeHead = c .0 in
+    record {
+      valid = v;
+      words = λ i. record {
+        state = record { settings = settings i; «free_group» = groupHead i; «free_place» = placeHead i; live = live i };
+        nodes = nodes i;
+        dots = dots i;
+        rects = rects i;
+        marks = marks i;
+      };
+    }

@@ -1,0 +1,202 @@
+-- Every call keeps a shape valid.
+--     live-and-free        live dots and free places together are N
+--     valid-height, child-0-leaf   a valid tree is at most D high; its children 0 are leaves
+--     fresh-valid, inserted-valid, removed-valid, cleaned-valid
+use mathlib.Core.Path.{_≡_, refl, ap, sym, _∙_}
+use mathlib.Core.List.{List, [], _∷_, _++_, map}
+use mathlib.Core.Bool.{Bool, true, false, cond, _&&_}
+use Prim.Native.Nat.{ℕ, zero, suc, _+_, _-_, _≤_, _<_}
+use native.Mathlib.Decide.{ℕ-discrete, decLt}
+use native.Mathlib.Omega.{arith}
+use lib.ListN.{length, length-append}
+use lib.Dec.{leb, ltb, T, lt→ltb}
+use lib.IntN.{pos}
+use Rattle.arithmetic.specs.Linear.{and-t}
+use Rattle.geometry.specs.declared.aabb.AABB.{AABB}
+use Rattle.geometry.specs.declared.settings.Settings.{Settings}
+use Rattle.model.specs.Sums.{indicator, indicator-same, indicator-other, sumOver, sumOver-append, sumOver-one, sumBelow, sumBelow-ext, sumBelow-add, sumBelow-zero, sumBelow-only, byDec}
+use Rattle.model.specs.Lists.{byBool, true-false, upTo, count}
+use Rattle.geometry.specs.Settings.{rootOf, rootFits, between, inRange, acceptable, D}
+use Rattle.geometry.specs.declared.node_data.NodeData.{NodeData}
+use Rattle.geometry.specs.Cells.{routeCell, mayDivide, rootData, childData, maySplit}
+use Rattle.model.specs.Trees.{Dot, Tree, leaf, branch, dots, sumDots-dots, atPlace, size, Shallow}
+use Rattle.model.specs.Shapes.{Shape, Valid, WellFormed, below, fresh, inserted, splitsFor, removed, foundBy, cleaned, headOf, tailOf, root}
+use Rattle.geometry.specs.Laws.Geometry.{levels-root, leb-true}
+use Rattle.model.specs.Laws.Insert.{insert-sum, insert-groups, insert-valid, valid-shallow}
+use Rattle.model.specs.Laws.Remove.{found-gone, remove-valid, remove-groups}
+use Rattle.model.specs.Laws.Cleanup.{clean-sum, clean-groups, clean-valid}
+
+-- ---- counting
+
+pub below-yes : (k n : ℕ) → k < n → below k n ≡ 1
+unfolding below
+below-yes k n h = go (ltb k n) (lt→ltb k n h)
+  where
+    go : (b : Bool) → T b → _≡_ {A = ℕ} (cond b 1 0) 1
+    go true t = refl
+    go false t = absurd t
+
+pub below-no : (k n : ℕ) → n ≤ k → below k n ≡ 0
+unfolding below
+below-no k n h =
+    byBool (ltb k n) (λ e. absurd (omega (arith, leb-true (suc k) n e))) (λ e. rw e refl)
+
+pub below-le : (k n : ℕ) → below k n ≤ 1
+unfolding below
+below-le k n = byBool (ltb k n) (λ e. rw e (omega arith)) (λ e. rw e (omega arith))
+
+count-upTo : (k n : ℕ) → count k (upTo n) ≡ below k n
+count-upTo k zero = sym (below-no k 0 (omega arith))
+count-upTo k (suc n) =
+    let a = sumOver-append (indicator k) (upTo n) (n ∷ []) in
+    byDec (ℕ-discrete k n)
+    (λ e. omega (arith, a, count-upTo k n, below-no k n (omega arith), below-yes k (suc n) (omega arith), ap (λ (y : ℕ). indicator k y) (sym e), indicator-same k))
+    (λ ne.
+    byDec (decLt k n)
+    (λ l. omega (arith, a, count-upTo k n, below-yes k n l, below-yes k (suc n) (omega arith), indicator-other k n ne))
+    (λ g. omega (arith, a, count-upTo k n, below-no k n (omega arith), below-no k (suc n) (omega arith), indicator-other k n ne)))
+
+pub sumOver-map : {A B : Type 0} (h : B → ℕ) (f : A → B) (xs : List A) → sumOver h (map f xs) ≡ sumOver (λ x. h (f x)) xs
+sumOver-map h f [] = refl
+sumOver-map h f (x ∷ xs) = omega (arith, sumOver-map h f xs)
+
+sum-swap : (n : ℕ) (ps : List ℕ) → sumBelow n (λ k. count k ps) ≡ sumOver (λ p. sumBelow n (λ k. indicator k p)) ps
+sum-swap n [] = sumBelow-zero n (λ k. 0) (λ j b. refl)
+sum-swap n (p ∷ ps) = sumBelow-add n (λ k. indicator k p) (λ k. count k ps) ∙ ap (λ (y : ℕ). sumBelow n (λ k. indicator k p) + y) (sum-swap n ps)
+
+sum-ones : (n : ℕ) (ps : List ℕ) → ((k : ℕ) → n ≤ k → count k ps ≡ 0) → sumOver (λ p. sumBelow n (λ k. indicator k p)) ps ≡ length ps
+sum-ones n [] z = refl
+sum-ones n (p ∷ ps) z =
+    let b : p < n = byDec (decLt p n) (λ h. h) (λ h. absurd (omega (arith, z p (omega arith), indicator-same p))) in
+    let one : sumBelow n (λ k. indicator k p) ≡ 1 = sumBelow-only n (λ k. indicator k p) p b (λ j jb ne. indicator-other j p ne) ∙ indicator-same p in
+    omega (arith, one, sum-ones n ps (λ k h. omega (arith, z k h)))
+
+sum-const : (n : ℕ) → sumBelow n (λ k. 1) ≡ n
+sum-const zero = refl
+sum-const (suc n) = omega (arith, sum-const n)
+
+-- a list that has each number below n once, and no other, has n elements
+once-length : (n : ℕ) (ps : List ℕ) → ((k : ℕ) → count k ps ≡ below k n) → length ps ≡ n
+once-length n ps o =
+    omega (
+      arith,
+      sum-ones n ps (λ k h. o k ∙ below-no k n h),
+      sum-swap n ps,
+      sumBelow-ext n (λ k. count k ps) (λ k. 1) (λ k b. o k ∙ below-yes k n b),
+      sum-const n,
+    )
+
+pub live-and-free : (x : Shape) → Valid x → size (x .tree) + length (x .freePlaces) ≡ x .places
+live-and-free x v =
+    let ps = map (λ d. d .place) (dots (x .tree)) in
+    let one = once-length (x .places) (ps ++ x .freePlaces) (λ k.
+    omega (
+      arith,
+      sumOver-append (indicator k) ps (x .freePlaces),
+      sumOver-map (indicator k) (λ d. d .place) (dots (x .tree)),
+      sumDots-dots (atPlace k) (x .tree),
+      v .placesOnce k,
+    )) in
+    omega (
+      arith,
+      one,
+      length-append ps (x .freePlaces),
+      sumOver-one ps,
+      sumOver-map (λ p. 1) (λ d. d .place) (dots (x .tree)),
+      sumDots-dots (λ d. 1) (x .tree),
+    )
+
+-- ---- what the settings' ranges say
+
+pub record Positive (s : Settings) : Type 0 where
+  pub leafLimit : 1 ≤ s .«leaf_limit»
+  pub smallestCell : 1 ≤ s .«smallest_cell»
+
+pub in-positive : (s : Settings) → inRange s ≡ true → Positive s
+unfolding inRange
+in-positive s e =
+    let lim = s .«leaf_limit» in
+    let small = s .«smallest_cell» in
+    let p = and-t (between 1 4294967295 lim) (between 1 2147483647 small)
+    (and-t (rootFits s && between 0 255 (s .«depth_limit»)) (between 1 4294967295 lim && between 1 2147483647 small) e .1) in
+    record {
+      leafLimit = leb-true 1 lim (and-t (leb 1 lim) (leb lim 4294967295) (p .0) .0);
+      smallestCell = leb-true 1 small (and-t (leb 1 small) (leb small 2147483647) (p .1) .0);
+    }
+
+-- a valid tree is at most D high
+pub valid-height : (x : Shape) → Valid x → Shallow (D (x .settings)) (x .tree)
+valid-height x v =
+    let s = x .settings in
+    valid-shallow s (in-positive s (v .settingsFit) .smallestCell) (D s) (rootData s) (x .tree) (levels-root s) (v .wellFormed)
+
+-- 'child 0 is a leaf': it could not split
+pub child-0-leaf : (s : Settings) (n : NodeData) (t : Tree) → WellFormed s (childData n 0) t → (chain : List Dot) × (t ≡ leaf chain)
+unfolding childData mayDivide
+child-0-leaf s n (leaf chain) v = (chain, refl)
+child-0-leaf s n (branch g f) v = true-false (sym (v .0))
+
+-- ---- the calls
+
+pub fresh-valid : (s : Settings) (groups places : ℕ) → inRange s ≡ true → groups ≤ 16384 → places ≤ 65536 → Valid (fresh s groups places)
+unfolding fresh
+fresh-valid s groups places e g p =
+    record {
+      groupsFit = g;
+      placesFit = p;
+      settingsFit = e;
+      groupsOnce = λ k. omega (arith, count-upTo k groups);
+      placesOnce = λ k. omega (arith, count-upTo k places);
+      wellFormed = (tt, λ m. omega arith);
+    }
+
+count-head : (ps : List ℕ) → 1 ≤ length ps → (k : ℕ) → indicator k (headOf ps) + count k (tailOf ps) ≡ count k ps
+count-head [] h k = absurd (omega arith)
+count-head (p ∷ ps) h k = refl
+
+pub inserted-valid : (id : ℕ) (r : AABB) (x : Shape) → Valid x → acceptable (x .settings) r ≡ true → 1 ≤ length (x .freePlaces) → splitsFor r x ≤ length (x .freeGroups)
+    → Valid (inserted id r x)
+unfolding inserted splitsFor
+inserted-valid id r x v ok room enough =
+    let s = x .settings in
+    let d : Dot = record { place = headOf (x .freePlaces); id = id; rect = r } in
+    let pos = in-positive s (v .settingsFit) in
+    record {
+      groupsFit = v .groupsFit;
+      placesFit = v .placesFit;
+      settingsFit = v .settingsFit;
+      groupsOnce = λ k. omega (arith, v .groupsOnce k, insert-groups s (indicator k) (D s) (root x) d (x .tree) (x .freeGroups));
+      placesOnce = λ k.
+          omega (
+            arith,
+            v .placesOnce k,
+            insert-sum s (atPlace k) (D s) (root x) d (x .tree) (x .freeGroups) (valid-height x v),
+            count-head (x .freePlaces) room k,
+          );
+      wellFormed = insert-valid s (pos .smallestCell) (D s) (root x) d (x .tree) (x .freeGroups) (levels-root s) ok enough (pos .leafLimit) (v .wellFormed);
+    }
+
+pub removed-valid : (id : ℕ) (r : AABB) (x : Shape) → Valid x → foundBy id r x ≡ true → Valid (removed id r x)
+unfolding removed foundBy
+removed-valid id r x v e =
+    let gone = found-gone id r (root x) (x .tree) e in
+    record {
+      groupsFit = v .groupsFit;
+      placesFit = v .placesFit;
+      settingsFit = v .settingsFit;
+      groupsOnce = λ k. omega (arith, v .groupsOnce k, remove-groups id r (indicator k) (root x) (x .tree));
+      placesOnce = λ k. omega (arith, v .placesOnce k, gone .2 (atPlace k), ap (λ (y : ℕ). indicator k y) (gone .3));
+      wellFormed = remove-valid (x .settings) id r (root x) (x .tree) (v .wellFormed);
+    }
+
+pub cleaned-valid : (x : Shape) → Valid x → Valid (cleaned x)
+unfolding cleaned
+cleaned-valid x v =
+    record {
+      groupsFit = v .groupsFit;
+      placesFit = v .placesFit;
+      settingsFit = v .settingsFit;
+      groupsOnce = λ k. clean-groups (indicator k) (x .tree) (x .freeGroups) ∙ v .groupsOnce k;
+      placesOnce = λ k. omega (arith, clean-sum (atPlace k) (x .tree), v .placesOnce k);
+      wellFormed = clean-valid (x .settings) (root x) (x .tree) (v .wellFormed);
+    }

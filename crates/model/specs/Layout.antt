@@ -1,0 +1,163 @@
+-- The lent memory, and the words of a shape in it (document 01, 'Settings and lent memory').
+--     World        state, nodes, dots, rects and marks: all that a call is given and leaves, besides its own arguments and its answer
+--     layout       THE words of a shape: an explicit function; marks 0
+--     cleared      a world with its marks 0
+--     Holds w x    the world w is a tree, and its shape is x
+-- How the words are found: a shape has one entry for each node and one for each place; a row reads them off, in the order of the numbers.
+use mathlib.Core.Path.{_≡_}
+use mathlib.Core.List.{List, [], _∷_, _++_, map}
+use mathlib.Core.Bool.{Bool, cond, _&&_}
+use Prim.Native.Nat.{ℕ, _+_, _*_, _/_}
+use lib.IntN.{ℤ}
+use lib.Dec.{eqb, leb}
+use lib.ListN.{length, replicate}
+use Rattle.geometry.specs.declared.aabb.AABB.{AABB}
+use Rattle.model.specs.declared.State.{State}
+use Rattle.model.specs.Lists.{joinBelow}
+use Rattle.geometry.specs.Rectangles.{zeroRect}
+use Rattle.model.specs.Trees.{Dot, Tree, leaf, branch, childNode, size}
+use Rattle.model.specs.Shapes.{Shape, Valid}
+
+pub record World : Type 0 where
+  pub state : State
+  pub nodes : List ℕ
+  pub dots : List ℕ
+  pub rects : List ℤ
+  pub marks : List ℕ
+
+-- ---- lengths
+
+-- G and N, read off the lengths
+abbrev pub groupsOf : World → ℕ
+groupsOf w = length (w .nodes) / 10
+
+abbrev pub placesOf : World → ℕ
+placesOf w = length (w .dots) / 2
+
+-- 'Nodes: u32, two words a node (first, count), 1 + 5G nodes, G from 0 to 16384.'
+abbrev pub nodesRight : World → Bool
+nodesRight w = eqb (length (w .nodes)) (2 * (1 + 5 * groupsOf w)) && leb (groupsOf w) 16384
+
+-- 'Dots: u32, two words a place (id, next); i32, four words a place (rectangle); N places, 0 to 65536.'
+abbrev pub dotsRight : World → Bool
+dotsRight w = eqb (length (w .dots)) (2 * placesOf w) && leb (placesOf w) 65536 && eqb (length (w .rects)) (4 * placesOf w)
+
+-- 'Marks: N + G bytes'
+abbrev pub marksRight : World → Bool
+marksRight w = eqb (length (w .marks)) (placesOf w + groupsOf w)
+
+-- refusal '1 a slice length isn't of the stated form'
+unfoldable pub lengthsRight : World → Bool
+lengthsRight w = nodesRight w && dotsRight w && marksRight w
+
+-- ---- words
+
+-- 'None is 4294967295.' 'A branch is (first node of its group, 4294967295).'
+unfoldable pub none : ℕ
+none = 4294967295
+
+unfoldable pub branchMark : ℕ
+branchMark = 4294967295
+
+-- 'a group's first node .. or none'; 'a place .. or none'
+abbrev pub firstNode : List ℕ → ℕ
+firstNode [] = none
+firstNode (g ∷ gs) = childNode g 0
+
+abbrev pub firstDot : List Dot → ℕ
+firstDot [] = none
+firstDot (d ∷ ds) = d .place
+
+-- a node with its two words, a place with its two words and its rectangle
+pub record NodeEntry : Type 0 where
+  pub node : ℕ
+  pub first : ℕ
+  pub count : ℕ
+
+pub record PlaceEntry : Type 0 where
+  pub place : ℕ
+  pub id : ℕ
+  pub next : ℕ
+  pub rect : AABB
+
+-- 'A leaf's first word is the place that heads its chain, or none'; 'a leaf's count is its chain's length';
+-- 'A branch is (first node of its group, 4294967295)'. The tree t stands at the node a.
+abbrev pub treeNodes : ℕ → Tree → List NodeEntry
+treeNodes a (leaf chain) = record { node = a; first = firstDot chain; count = length chain } ∷ []
+treeNodes a (branch g f) = record { node = a; first = childNode g 0; count = branchMark } ∷ joinBelow 5 (λ i. treeNodes (childNode g i) (f i))
+
+-- 'An empty leaf is (none, 0).' 'A free group is five empty leaves, save that its first node's first word names the next free group's first node, or none.'
+abbrev pub freeGroupNodes : List ℕ → List NodeEntry
+freeGroupNodes [] = []
+freeGroupNodes (g ∷ gs) =
+    record { node = childNode g 0; first = firstNode gs; count = 0 }
+    ∷ joinBelow 4 (λ i. record { node = childNode g (1 + i); first = none; count = 0 } ∷ [])
+    ++ freeGroupNodes gs
+
+-- 'a chained dot's next is the place after it, or none'
+abbrev pub chainPlaces : List Dot → List PlaceEntry
+chainPlaces [] = []
+chainPlaces (d ∷ ds) = record { place = d .place; id = d .id; next = firstDot ds; rect = d .rect } ∷ chainPlaces ds
+
+abbrev pub treePlaces : Tree → List PlaceEntry
+treePlaces (leaf chain) = chainPlaces chain
+treePlaces (branch g f) = joinBelow 5 (λ i. treePlaces (f i))
+
+-- 'A free place has id 0, rectangle 0,0,0,0 and next = the next free place or none': the free places are a chain of blank dots
+abbrev pub blank : ℕ → Dot
+blank p = record { place = p; id = 0; rect = zeroRect }
+
+-- the entries of a shape
+abbrev pub nodeEntries : Shape → List NodeEntry
+nodeEntries x = treeNodes 0 (x .tree) ++ freeGroupNodes (x .freeGroups)
+
+abbrev pub placeEntries : Shape → List PlaceEntry
+placeEntries x = treePlaces (x .tree) ++ chainPlaces (map blank (x .freePlaces))
+
+-- the words of node k and of place k, from the entry that has that number (each number of a valid shape has one entry)
+abbrev pub nodeWords : List NodeEntry → ℕ → List ℕ
+nodeWords [] k = 0 ∷ 0 ∷ []
+nodeWords (e ∷ es) k = cond (eqb k (e .node)) (e .first ∷ e .count ∷ []) (nodeWords es k)
+
+abbrev pub dotWords : List PlaceEntry → ℕ → List ℕ
+dotWords [] k = 0 ∷ 0 ∷ []
+dotWords (e ∷ es) k = cond (eqb k (e .place)) (e .id ∷ e .next ∷ []) (dotWords es k)
+
+abbrev pub rectWords : AABB → List ℤ
+rectWords r = r .x1 ∷ r .y1 ∷ r .x2 ∷ r .y2 ∷ []
+
+abbrev pub placeRect : List PlaceEntry → ℕ → List ℤ
+placeRect [] k = rectWords zeroRect
+placeRect (e ∷ es) k = cond (eqb k (e .place)) (rectWords (e .rect)) (placeRect es k)
+
+-- ---- the whole
+
+-- 'The state carries settings, both free heads (a group's first node, a place, or none) and the live number'; 'live is the number of chained dots'
+unfoldable pub stateOf : Shape → State
+stateOf x =
+    record {
+      settings = x .settings;
+      «free_group» = firstNode (x .freeGroups);
+      «free_place» = firstDot (map blank (x .freePlaces));
+      live = size (x .tree);
+    }
+
+unfoldable pub layout : Shape → World
+layout x =
+    record {
+      state = stateOf x;
+      nodes = joinBelow (1 + 5 * x .groups) (nodeWords (nodeEntries x));
+      dots = joinBelow (x .places) (dotWords (placeEntries x));
+      rects = joinBelow (x .places) (placeRect (placeEntries x));
+      marks = replicate (x .places + x .groups) 0;
+    }
+
+-- 'Marks .. 0 everywhere after each call not refused 1 or 2.'
+unfoldable pub cleared : World → World
+cleared w =
+    record { state = w .state; nodes = w .nodes; dots = w .dots; rects = w .rects; marks = replicate (length (w .marks)) 0 }
+
+-- The memory is a tree, whatever its marks hold: its other words are those of a valid shape.
+pub record Holds (w : World) (x : Shape) : Type 0 where
+  pub valid : Valid x
+  pub words : cleared w ≡ layout x

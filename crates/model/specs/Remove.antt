@@ -1,0 +1,38 @@
+-- Remove on the tree (document 01, 'Remove'): routes a rectangle to one leaf, and frees the first dot there with that id.
+--     firstHas, firstOut, firstPlace       of a chain: is there one, the chain without it, its place
+--     removeSays, removeAt, removePlace    the same of the leaf that the rectangle routes to
+use mathlib.Core.List.{List, [], _∷_}
+use mathlib.Core.Bool.{Bool, true, false, cond}
+use Prim.Native.Nat.{ℕ}
+use lib.Dec.{eqb}
+use Rattle.geometry.specs.declared.aabb.AABB.{AABB}
+use Rattle.geometry.specs.declared.node_data.NodeData.{NodeData}
+use Rattle.model.specs.Sums.{changed}
+use Rattle.model.specs.Trees.{Dot, Tree, leaf, branch}
+use Rattle.geometry.specs.Cells.{routeCell, mayDivide, childData, route}
+
+abbrev pub firstHas : ℕ → List Dot → Bool
+firstHas id [] = false
+firstHas id (d ∷ ds) = cond (eqb id (d .id)) true (firstHas id ds)
+
+abbrev pub firstOut : ℕ → List Dot → List Dot
+firstOut id [] = []
+firstOut id (d ∷ ds) = cond (eqb id (d .id)) ds (d ∷ firstOut id ds)
+
+abbrev pub firstPlace : ℕ → List Dot → ℕ
+firstPlace id [] = 0
+firstPlace id (d ∷ ds) = cond (eqb id (d .id)) (d .place) (firstPlace id ds)
+
+-- 'Remove takes any rectangle, routes it to one leaf .. Its rectangle isn't compared.'
+module _ (id : ℕ) (r : AABB) where
+  abbrev pub removeSays : NodeData → Tree → Bool
+  removeSays n (leaf chain) = firstHas id chain
+  removeSays n (branch g f) = let i = route n r in removeSays (childData n i) (f i)
+
+  abbrev pub removeAt : NodeData → Tree → Tree
+  removeAt n (leaf chain) = leaf (firstOut id chain)
+  removeAt n (branch g f) = let i = route n r in branch g (changed f i (removeAt (childData n i) (f i)))
+
+  abbrev pub removePlace : NodeData → Tree → ℕ
+  removePlace n (leaf chain) = firstPlace id chain
+  removePlace n (branch g f) = let i = route n r in removePlace (childData n i) (f i)

@@ -1,0 +1,119 @@
+-- The abstract state: everything that a lent memory which is a tree says, and nothing else (document 01, 'The memory is a tree when').
+--     Shape        settings, G, N, the tree with its addresses, the free groups and the free places in the order of their lists
+--     Valid        the rules of 'The memory is a tree' that speak of the tree
+--     fresh        the shape that an accepted make leaves
+--     inserted, removed, cleaned   the shapes that the calls leave; splitsFor, foundBy, cleans: what they answer
+--     listed, opensFor, leaves, references     what the reading calls answer
+use mathlib.Core.Path.{_≡_}
+use mathlib.Core.List.{List, [], _∷_, map}
+use mathlib.Core.Bool.{Bool, true, not, cond}
+use Prim.Native.Nat.{ℕ, _+_, _≤_, _<_}
+use lib.IntN.{ℤ}
+use lib.ListN.{length}
+use lib.Dec.{ltb}
+use Rattle.geometry.specs.declared.aabb.AABB.{AABB}
+use Rattle.geometry.specs.declared.settings.Settings.{Settings}
+use Rattle.geometry.specs.declared.node_data.NodeData.{NodeData}
+use Rattle.model.specs.Lists.{All, upTo, count}
+use Rattle.geometry.specs.Settings.{rootOf, inRange, D, acceptable}
+use Rattle.geometry.specs.Cells.{routeCell, mayDivide, rootData, childData, route, maySplit}
+use Rattle.model.specs.Trees.{Dot, Tree, leaf, branch, groupCount, placeCount, AllDots, size}
+use Rattle.model.specs.Insert.{insertAt, splitsNeeded}
+use Rattle.model.specs.Remove.{removeSays, removeAt, removePlace}
+use Rattle.model.specs.Cleanup.{isZero, cleanTree, freedBy, turned}
+use Rattle.model.specs.Query.{hits, opened, leavesOf, leafCount}
+
+pub record Shape : Type 0 where
+  pub settings : Settings
+  pub groups : ℕ
+  pub places : ℕ
+  pub tree : Tree
+  pub freeGroups : List ℕ
+  pub freePlaces : List ℕ
+
+-- 1 below n, else 0
+unfoldable pub below : ℕ → ℕ → ℕ
+below k n = cond (ltb k n) 1 0
+
+-- The rules below a node. 'a branch could split' (were it a leaf, it would be one that may split; so 'child 0 is a leaf'); 'each dot has a rectangle that 4 and 5 below
+-- wouldn't refuse and stands in the leaf it routes to'; 'a leaf's count is .. at most the leaf limit if it may split'.
+-- The last part is no rule of the document: it says that a branch has no child beyond 4, so that a memory has one shape at most.
+abbrev pub WellFormed : Settings → NodeData → Tree → Type 0
+WellFormed s n (leaf chain) = All (λ d. acceptable s (d .rect) ≡ true) chain × (maySplit s n ≡ true → length chain ≤ s .«leaf_limit»)
+WellFormed s n (branch g f) =
+    (maySplit s n ≡ true)
+    × ((i : ℕ) → i < 5 → AllDots (λ d. route n (d .rect) ≡ i) (f i) × WellFormed s (childData n i) (f i))
+    × ((i : ℕ) → 5 ≤ i → f i ≡ leaf [])
+
+pub record Valid (x : Shape) : Type 0 where
+  -- 'G from 0 to 16384', 'N places, 0 to 65536'
+  pub groupsFit : x .groups ≤ 16384
+  pub placesFit : x .places ≤ 65536
+  pub settingsFit : inRange (x .settings) ≡ true
+  -- 'every group and place is reached once, from the root or its free head, never both'
+  pub groupsOnce : (k : ℕ) → groupCount k (x .tree) + count k (x .freeGroups) ≡ below k (x .groups)
+  pub placesOnce : (k : ℕ) → placeCount k (x .tree) + count k (x .freePlaces) ≡ below k (x .places)
+  pub wellFormed : WellFormed (x .settings) (rootData (x .settings)) (x .tree)
+
+-- 'Fresh, as an accepted make leaves it: the root an empty leaf, all groups and places free, chained upward from 0'
+unfoldable pub fresh : Settings → ℕ → ℕ → Shape
+fresh s groups places =
+    record { settings = s; groups = groups; places = places; tree = leaf []; freeGroups = upTo groups; freePlaces = upTo places }
+
+-- the same room, with another tree and other free lists
+abbrev pub reshaped : Shape → Tree → List ℕ → List ℕ → Shape
+reshaped x t freeGroups freePlaces =
+    record { settings = x .settings; groups = x .groups; places = x .places; tree = t; freeGroups = freeGroups; freePlaces = freePlaces }
+
+abbrev pub root : Shape → NodeData
+root x = rootData (x .settings)
+
+-- 'the head is taken first'
+abbrev pub headOf : List ℕ → ℕ
+headOf [] = 0
+headOf (k ∷ ks) = k
+
+abbrev pub tailOf : List ℕ → List ℕ
+tailOf [] = []
+tailOf (k ∷ ks) = ks
+
+-- Insert: the splits, and the shape
+unfoldable pub splitsFor : AABB → Shape → ℕ
+splitsFor r x = splitsNeeded (x .settings) (D (x .settings)) (root x) r (x .tree)
+
+unfoldable pub inserted : ℕ → AABB → Shape → Shape
+inserted id r x =
+    let dot : Dot = record { place = headOf (x .freePlaces); id = id; rect = r } in
+    let grown = insertAt (x .settings) (D (x .settings)) (root x) dot (x .tree) (x .freeGroups) in
+    reshaped x (grown .tree) (grown .free) (tailOf (x .freePlaces))
+
+-- Remove: yes or no, and the shape after a yes
+unfoldable pub foundBy : ℕ → AABB → Shape → Bool
+foundBy id r x = removeSays id r (root x) (x .tree)
+
+unfoldable pub removed : ℕ → AABB → Shape → Shape
+removed id r x = reshaped x (removeAt id r (root x) (x .tree)) (x .freeGroups) (removePlace id r (root x) (x .tree) ∷ x .freePlaces)
+
+-- Cleanup
+unfoldable pub cleans : Shape → Bool
+cleans x = not (isZero (turned (x .tree)))
+
+unfoldable pub cleaned : Shape → Shape
+cleaned x = reshaped x (cleanTree (x .tree)) (freedBy (x .tree) (x .freeGroups)) (x .freePlaces)
+
+-- Query
+unfoldable pub listed : AABB → Shape → List ℕ
+listed q x = map (λ d. d .id) (hits q (root x) (x .tree))
+
+unfoldable pub opensFor : AABB → Shape → ℕ
+opensFor q x = opened q (root x) (x .tree)
+
+-- Leaves, References: 'the dots in all leaves'
+unfoldable pub leaves : Shape → List ℤ
+leaves x = leavesOf (root x) (x .tree)
+
+unfoldable pub leafNumber : Shape → ℕ
+leafNumber x = leafCount (x .tree)
+
+unfoldable pub references : Shape → ℕ
+references x = size (x .tree)

@@ -1,0 +1,157 @@
+-- The starred trials of document 01 ('Trials at the edges') as one table, computed by the checker.
+--     Trial, Line  a trial; a line of a trial that makes calls, with the answer that it must give
+--     passes       whether it comes out so, by the definitions of Settings, Rectangles, Cells and Calls
+--     table, all-pass      THE TABLE, and its one proof
+--     further, further-pass        others, in the same form: dotcheck's lines, and words of the layout
+use mathlib.Core.Path.{_≡_, refl}
+use mathlib.Core.List.{List, [], _∷_}
+use mathlib.Core.Bool.{Bool, true, false, not, _&&_}
+use Prim.Native.Nat.{ℕ, _+_}
+use lib.IntN.{pos, negsuc}
+use lib.Dec.{eqb}
+use Rattle.geometry.specs.declared.aabb.AABB.{AABB}
+use Rattle.geometry.specs.declared.settings.Settings.{Settings}
+use Rattle.model.specs.Sums.{indicator, changed}
+use Rattle.geometry.specs.Rectangles.{flat, intersects, middle, within, inverted, near, farOut}
+use Rattle.geometry.specs.Settings.{rootOf, W, bitsWithin, bitLength, halvings, D, contains, rootRect}
+use Rattle.geometry.specs.Cells.{routeCell, mayDivide, rootCell, rootData, childCentre, quarterCell, childCell, childData, quadrant, route, bothTests, opens, maySplit}
+use Rattle.model.specs.Shapes.{Shape, fresh, inserted, splitsFor, removed, foundBy, cleaned, cleans, listed, opensFor}
+use Rattle.model.specs.Layout.{none, branchMark, layout}
+use Rattle.model.specs.Calls.{Verdict, refuse, overflow, accept, shapeAfter, answerWord, yesNo, Listed, insertRule, removeRule, cleanupRule, queryRule}
+use Rattle.arithmetic.specs.Ints.{maxZ, minZ}
+
+-- 'Root 0,0,16,16, limits as above' (depth limit 2, smallest cell 1) with a leaf limit
+abbrev settings : ℕ → Settings
+settings leafLimit =
+    record {
+      left = pos 0;
+      top = pos 0;
+      width = pos 16;
+      height = pos 16;
+      «depth_limit» = 2;
+      «leaf_limit» = leafLimit;
+      «smallest_cell» = 1;
+    }
+
+abbrev rect : ℕ → ℕ → ℕ → ℕ → AABB
+rect x1 y1 x2 y2 = record { x1 = pos x1; y1 = pos y1; x2 = pos x2; y2 = pos y2 }
+
+-- an answer word as the batch writes it: splits, 1 or 0, or 4294967040 + refusal
+abbrev refusedWith : ℕ → ℕ
+refusedWith k = 4294967040 + k
+
+pub data Line : Type 0 where
+  insert : ℕ → AABB → ℕ → Line
+  remove : ℕ → AABB → ℕ → Line
+  cleanup : ℕ → Line
+  all : List ℕ → Line
+  query : AABB → List ℕ → ℕ → Line
+  -- the words of the nodes and of the dots at this point
+  words : List ℕ → List ℕ → Line
+
+pub data Trial : Type 0 where
+  -- the root contains the rectangle, or not
+  contained : AABB → Bool → Trial
+  -- the root routes the rectangle to this child
+  routed : AABB → ℕ → Trial
+  -- D
+  deepest : ℕ → Trial
+  -- the two rectangles intersect, or not
+  meet : AABB → AABB → Bool → Trial
+  -- from a fresh tree with this leaf limit and G: these calls with these answers
+  calls : ℕ → ℕ → List Line → Trial
+
+abbrev sameBool : Bool → Bool → Bool
+sameBool true b = b
+sameBool false b = not b
+
+abbrev sameList : List ℕ → List ℕ → Bool
+sameList [] [] = true
+sameList [] (y ∷ ys) = false
+sameList (x ∷ xs) [] = false
+sameList (x ∷ xs) (y ∷ ys) = eqb x y && sameList xs ys
+
+abbrev lists : Verdict ℕ Listed → List ℕ → Bool
+lists (refuse k) ids = false
+lists (overflow n) ids = false
+lists (accept x row a) ids = sameList row ids
+
+abbrev opensJust : Verdict ℕ Listed → ℕ → Bool
+opensJust (refuse k) n = false
+opensJust (overflow m) n = false
+opensJust (accept x row a) n = eqb (a .opened) n
+
+abbrev passLines : Shape → List Line → Bool
+passLines x [] = true
+passLines x (insert id r word ∷ ls) = let v = insertRule id r x in eqb (answerWord (λ n. n) v) word && passLines (shapeAfter x v) ls
+passLines x (remove id r word ∷ ls) = let v = removeRule id r x in eqb (answerWord yesNo v) word && passLines (shapeAfter x v) ls
+passLines x (cleanup word ∷ ls) = let v = cleanupRule x in eqb (answerWord yesNo v) word && passLines (shapeAfter x v) ls
+passLines x (all ids ∷ ls) = lists (queryRule (rootRect (x .settings)) 8 x) ids && passLines x ls
+passLines x (words nodes dots ∷ ls) = sameList (layout x .nodes) nodes && sameList (layout x .dots) dots && passLines x ls
+passLines x (query q ids opened ∷ ls) = lists (queryRule q 8 x) ids && opensJust (queryRule q 8 x) opened && passLines x ls
+
+abbrev passes : Trial → Bool
+passes (contained r yes?) = sameBool (contains (rootOf (settings 2)) r) yes?
+passes (routed r child) = eqb (route (rootData (settings 2)) r) child
+passes (deepest d) = eqb (D (settings 2)) d
+passes (meet a b yes?) = sameBool (intersects a b) yes?
+passes (calls leafLimit groups ls) = passLines (fresh (settings leafLimit) groups 8) ls
+
+abbrev passAll : List Trial → Bool
+passAll [] = true
+passAll (t ∷ ts) = passes t && passAll ts
+
+abbrev three : List Line → List Line
+three ls = insert 1 (rect 1 1 2 2) 0 ∷ insert 2 (rect 9 1 10 2) 0 ∷ insert 3 (rect 7 7 9 9) 1 ∷ ls
+
+abbrev pub table : List Trial
+table =
+    -- '15,15,17,17 contained; 16,16,18,18 not; -1,-1,0,0 not (floor)'
+    contained (rect 15 15 17 17) true
+    ∷ contained (rect 16 16 18 18) false
+    ∷ contained (record { x1 = negsuc 0; y1 = negsuc 0; x2 = pos 0; y2 = pos 0 }) false
+    -- '8,8,8,8 routes to 1; 8,8,9,9 to 0; 9,9,9,9 to 4'
+    ∷ routed (rect 8 8 8 8) 1
+    ∷ routed (rect 8 8 9 9) 0
+    ∷ routed (rect 9 9 9 9) 4
+    -- '9,1,10,2 against 10,0,12,4: no; against 10,0,10,4: yes'
+    ∷ meet (rect 9 1 10 2) (rect 10 0 12 4) false
+    ∷ meet (rect 9 1 10 2) (rect 10 0 10 4) true
+    -- '16,1,17,2 is contained, yet All doesn't list it'
+    ∷ contained (rect 16 1 17 2) true
+    ∷ calls 2 2 (insert 1 (rect 16 1 17 2) 0 ∷ all [] ∷ [])
+    -- 'Leaf limit 1: dots 1,1,2,2 then 3,3,3,3: 2 splits; with G = 1 refused 7. Remove both: cleanup yes, yes, no.'
+    ∷ calls 1 2 (
+    insert 1 (rect 1 1 2 2) 0 ∷ insert 2 (rect 3 3 3 3) 2 ∷ remove 1 (rect 1 1 2 2) 1 ∷ remove 2 (rect 3 3 3 3) 1
+    ∷ cleanup 1 ∷ cleanup 1 ∷ cleanup 0 ∷ []
+    )
+    ∷ calls 1 1 (insert 1 (rect 1 1 2 2) 0 ∷ insert 2 (rect 3 3 3 3) (refusedWith 7) ∷ [])
+    -- 'Remove of id 1 (at 1,1,2,2, after dotcheck's three inserts) by 3,3,4,4: yes; by 9,1,10,2: no.'
+    ∷ calls 2 8 (three (remove 1 (rect 3 3 4 4) 1 ∷ []))
+    ∷ calls 2 8 (three (remove 1 (rect 9 1 10 2) 0 ∷ []))
+    ∷ []
+
+-- not starred: dotcheck's own lines, `S,2`, `E,5`, `Q,3,2,3,1`, `D,3,1`, `C,0`; and every word after its three inserts, with G = 1
+abbrev pub further : List Trial
+further =
+    deepest 2
+    ∷ calls 2 8 (three (
+    insert 4 (rect 16 16 18 18) (refusedWith 5) ∷ query (rect 0 0 8 8) (3 ∷ 1 ∷ []) 3 ∷ remove 3 (rect 7 7 9 9) 1 ∷ cleanup 0 ∷ []
+    ))
+    ∷ calls 2 1 (three (
+    words
+    (1 ∷ 4294967295 ∷ 2 ∷ 1 ∷ 0 ∷ 1 ∷ 1 ∷ 1 ∷ 4294967295 ∷ 0 ∷ 4294967295 ∷ 0 ∷ [])
+    (1 ∷ 4294967295 ∷ 2 ∷ 4294967295 ∷ 3 ∷ 4294967295 ∷ 0 ∷ 4 ∷ 0 ∷ 5 ∷ 0 ∷ 6 ∷ 0 ∷ 7 ∷ 0 ∷ 4294967295 ∷ []) ∷ []
+    ))
+    ∷ calls 2 1 (words
+    (4294967295 ∷ 0 ∷ 4294967295 ∷ 0 ∷ 4294967295 ∷ 0 ∷ 4294967295 ∷ 0 ∷ 4294967295 ∷ 0 ∷ 4294967295 ∷ 0 ∷ [])
+    (0 ∷ 1 ∷ 0 ∷ 2 ∷ 0 ∷ 3 ∷ 0 ∷ 4 ∷ 0 ∷ 5 ∷ 0 ∷ 6 ∷ 0 ∷ 7 ∷ 0 ∷ 4294967295 ∷ []) ∷ [])
+    ∷ []
+
+pub all-pass : passAll table ≡ true
+unfolding flat intersects middle within inverted near farOut W bitsWithin bitLength halvings D contains rootRect rootCell rootData childCentre quarterCell childCell childData quadrant routeCell bothTests opens mayDivide fresh inserted splitsFor removed foundBy cleaned cleans listed opensFor insertRule removeRule cleanupRule queryRule indicator changed maxZ minZ
+all-pass = refl
+
+pub further-pass : passAll further ≡ true
+unfolding flat intersects middle within inverted near farOut W bitsWithin bitLength halvings D contains rootRect rootCell rootData childCentre quarterCell childCell childData quadrant routeCell bothTests opens mayDivide fresh inserted splitsFor removed foundBy cleaned cleans listed opensFor insertRule removeRule cleanupRule queryRule indicator changed maxZ minZ layout none branchMark
+further-pass = refl
