@@ -2,7 +2,7 @@
 -- related to the next by the call's own statement.
 --     Event        a call with its arguments, its row and its reply
 --     Run          a list of events from one world to another
---     book         the pairs of id and rectangle, fed arguments and yes or no alone
+--     book         the live dots, fed arguments and yes or no alone
 --     Distinct     no accepted insert names an id then live
 --     Quiet        no accepted insert, no remove that said yes
 --     Demand3      THE STATEMENT
@@ -16,22 +16,23 @@ use lib.ListN.{length, take}
 use Rattle.geometry.specs.declared.aabb.AABB.{AABB}
 use Rattle.geometry.specs.declared.settings.Settings.{Settings}
 use Rattle.model.specs.Lists.{count, filter}
-use Rattle.geometry.specs.Rectangles.{intersects}
-use Rattle.geometry.specs.Settings.{rootOf, D}
+use Rattle.geometry.specs.Settings.{D}
+use Rattle.model.specs.declared.Dot.{Dot}
+use Rattle.model.specs.Dots.{isHit}
 use Rattle.model.specs.Layout.{World}
 use Rattle.model.specs.Calls.{Reply, refused, tooMany, answered, Listed, Make, Insert, Remove, Cleanup, Query}
 
 -- ---- calls and their replies
 
 pub data Event : Type 0 where
-  insert : ℕ → AABB → Reply ℕ → Event
+  insert : Dot → Reply ℕ → Event
   remove : ℕ → AABB → Reply Bool → Event
   cleanup : Reply Bool → Event
   query : AABB → List ℕ → List ℕ → Reply Listed → Event
 
 -- the event can happen: the call, given the world w and its arguments, may leave w′ and give this reply
 abbrev pub Happens : World → Event → World → Type 0
-Happens w (insert id r reply) w′ = Insert w id r w′ reply
+Happens w (insert dot reply) w′ = Insert w dot w′ reply
 Happens w (remove id r reply) w′ = Remove w id r w′ reply
 Happens w (cleanup reply) w′ = Cleanup w w′ reply
 Happens w (query q row row′ reply) w′ = Query w q row w′ row′ reply
@@ -43,11 +44,7 @@ Run w (e ∷ es) w′ = (v : World) × Happens w e v × Run v es w′
 
 -- ---- the book
 
--- 'The book of demand 3 is a list of pairs, id and rectangle.'
-pub record Pair : Type 0 where
-  pub id : ℕ
-  pub rect : AABB
-
+-- 'The book of demand 3 is a list of pairs, id and rectangle.' Such a pair is a dot.
 abbrev pub accepted : {A : Type 0} → Reply A → Bool
 accepted (refused k) = false
 accepted (tooMany n) = false
@@ -59,42 +56,42 @@ saidYes (tooMany n) = false
 saidYes (answered yes?) = yes?
 
 -- 'takes out every pair with its id, whatever rectangle it was given'
-abbrev pub without : ℕ → List Pair → List Pair
+abbrev pub without : ℕ → List Dot → List Dot
 without id [] = []
-without id (p ∷ ps) = cond (eqb id (p .id)) (without id ps) (p ∷ without id ps)
+without id (d ∷ ds) = cond (eqb id (d .id)) (without id ds) (d ∷ without id ds)
 
 -- 'It is fed each call's arguments and, of the answers, only whether an insert was accepted (not refused) and whether a remove said yes.'
-abbrev pub entered : List Pair → Event → List Pair
-entered b (insert id r reply) = cond (accepted reply) (record { id = id; rect = r } ∷ b) b
+abbrev pub entered : List Dot → Event → List Dot
+entered b (insert dot reply) = cond (accepted reply) (dot ∷ b) b
 entered b (remove id r reply) = cond (saidYes reply) (without id b) b
 entered b (cleanup reply) = b
 entered b (query q row row′ reply) = b
 
-abbrev pub bookAfter : List Pair → List Event → List Pair
+abbrev pub bookAfter : List Dot → List Event → List Dot
 bookAfter b [] = b
 bookAfter b (e ∷ es) = bookAfter (entered b e) es
 
 -- 'It starts empty.'
-abbrev pub book : List Event → List Pair
+abbrev pub book : List Event → List Dot
 book es = bookAfter [] es
 
--- the book has the pair
-abbrev pub Has : ℕ → AABB → List Pair → Type 0
-Has id r [] = ⊥
-Has id r (p ∷ ps) = ((p .id ≡ id) × (p .rect ≡ r)) ⊎ Has id r ps
+-- the book has the dot
+abbrev pub Has : Dot → List Dot → Type 0
+Has d [] = ⊥
+Has d (e ∷ es) = (e ≡ d) ⊎ Has d es
 
 -- 'An id is live while a pair has it; n is the number of pairs.'
-abbrev pub Live : ℕ → List Pair → Type 0
-Live id b = (r : AABB) × Has id r b
+abbrev pub Live : ℕ → List Dot → Type 0
+Live id b = (d : Dot) × Has d b × (d .id ≡ id)
 
 -- 'in which no accepted insert names an id then live'
-abbrev pub Fine : List Pair → Event → Type 0
-Fine b (insert id r reply) = accepted reply ≡ true → ¬ Live id b
+abbrev pub Fine : List Dot → Event → Type 0
+Fine b (insert dot reply) = accepted reply ≡ true → ¬ Live (dot .id) b
 Fine b (remove id r reply) = Unit {0}
 Fine b (cleanup reply) = Unit {0}
 Fine b (query q row row′ reply) = Unit {0}
 
-abbrev pub DistinctFrom : List Pair → List Event → Type 0
+abbrev pub DistinctFrom : List Dot → List Event → Type 0
 DistinctFrom b [] = Unit {0}
 DistinctFrom b (e ∷ es) = Fine b e × DistinctFrom (entered b e) es
 
@@ -105,7 +102,7 @@ Distinct es = DistinctFrom [] es
 
 -- 'until the next accepted insert or remove that says yes'
 abbrev pub Still : Event → Type 0
-Still (insert id r reply) = accepted reply ≡ false
+Still (insert dot reply) = accepted reply ≡ false
 Still (remove id r reply) = saidYes reply ≡ false
 Still (cleanup reply) = Unit {0}
 Still (query q row row′ reply) = Unit {0}
@@ -116,31 +113,31 @@ Quiet (e ∷ es) = Still e × Quiet es
 
 abbrev pub cleanups : List Event → ℕ
 cleanups [] = 0
-cleanups (insert id r reply ∷ es) = cleanups es
+cleanups (insert dot reply ∷ es) = cleanups es
 cleanups (remove id r reply ∷ es) = cleanups es
 cleanups (cleanup reply ∷ es) = 1 + cleanups es
 cleanups (query q row row′ reply ∷ es) = cleanups es
 
 -- ---- the demand
 
--- the pairs whose rectangles intersect q
-abbrev pub meeting : AABB → List Pair → List Pair
-meeting q b = filter (λ p. intersects q (p .rect)) b
+-- the dots of the book that a query with q lists
+abbrev pub meeting : AABB → List Dot → List Dot
+meeting q b = filter (isHit q) b
 
 -- 'exactly the live ids whose rectangles intersect its own, each once'
-pub record Exactly (q : AABB) (b : List Pair) (listed : List ℕ) : Type 0 where
+pub record Exactly (q : AABB) (b : List Dot) (listed : List ℕ) : Type 0 where
   pub once : (id : ℕ) → count id listed ≤ 1
-  pub onlyThose : (id : ℕ) → 1 ≤ count id listed → (r : AABB) × Has id r b × (intersects q r ≡ true)
-  pub allThose : (id : ℕ) (r : AABB) → Has id r b → intersects q r ≡ true → 1 ≤ count id listed
+  pub onlyThose : (id : ℕ) → 1 ≤ count id listed → (d : Dot) × Has d b × (d .id ≡ id) × (isHit q d ≡ true)
+  pub allThose : (d : Dot) → Has d b → isHit q d ≡ true → 1 ≤ count (d .id) listed
 
 -- what is promised of a world w after a list of calls whose book is b
-pub record Promise (s : Settings) (w : World) (b : List Pair) : Type 0 where
+pub record Promise (s : Settings) (w : World) (b : List Dot) : Type 0 where
   -- 'A query with any rectangle and a long enough answer row lists exactly the live ids whose rectangles intersect its own, each once.'
   -- 'a row is long enough with a word for each id to be listed'. The row then begins with the ids, as many as the answer reports.
   pub lists : (q : AABB) (row row′ : List ℕ) (w′ : World) (reply : Reply Listed) → Query w q row w′ row′ reply → length (meeting q b) ≤ length row
       → (a : Listed) × (reply ≡ answered a) × Exactly q b (take (a .hits) row′)
   -- 'A remove of a live id by the rectangle it was put in with says yes'
-  pub removesLive : (id : ℕ) (r : AABB) (w′ : World) (reply : Reply Bool) → Remove w id r w′ reply → Has id r b → reply ≡ answered true
+  pub removesLive : (d : Dot) (w′ : World) (reply : Reply Bool) → Remove w (d .id) (d .rect) w′ reply → Has d b → reply ≡ answered true
   -- 'a remove of an id that isn't live says no, whatever the rectangle'
   pub keepsOthers : (id : ℕ) (r : AABB) (w′ : World) (reply : Reply Bool) → Remove w id r w′ reply → ¬ Live id b → reply ≡ answered false
   -- 'From the end of the list until the next accepted insert or remove that says yes, cleanups say no at the latest with the (D + 1)th':

@@ -13,11 +13,12 @@ use lib.Dec.{eqb, ltb}
 use lib.ListN.{length, drop}
 use Rattle.geometry.specs.declared.aabb.AABB.{AABB}
 use Rattle.geometry.specs.declared.settings.Settings.{Settings}
+use Rattle.model.specs.declared.Dot.{Dot}
 use Rattle.model.specs.declared.Record.{Record}
 use Rattle.geometry.specs.Rectangles.{inverted, farOut}
 use Rattle.geometry.specs.Settings.{rootOf, inRange, contains, rootRect}
 use Rattle.model.specs.Trees.{size}
-use Rattle.model.specs.Shapes.{Shape, fresh, inserted, splitsFor, removed, foundBy, cleaned, cleans, listed, opensFor, leaves, leafNumber, references}
+use Rattle.model.specs.Shapes.{Shape, fresh, inserted, splitsMade, splitsNeeded, removed, foundBy, cleaned, cleans, listed, opensFor, leaves, leafNumber, references}
 use Rattle.model.specs.Layout.{World, groupsOf, placesOf, lengthsRight, layout, cleared, Holds}
 
 -- 'A refusal returns its number and, but for 8, nothing else.' 8 'returns how many there are'.
@@ -66,13 +67,14 @@ module _ {B A : Type 0} where
 -- ---- the rules
 
 -- 'Insert then: 4 inverted or a coordinate outside ..; 5 not contained; 6 live = N; 7 splits needed exceed free groups.'
-unfoldable pub insertRule : ℕ → AABB → Shape → Verdict ℕ ℕ
-insertRule id r x =
+unfoldable pub insertRule : Dot → Shape → Verdict ℕ ℕ
+insertRule dot x =
+    let r = dot .rect in
     cond (inverted r || farOut r) (refuse 4)
     (cond (not (contains (rootOf (x .settings)) r)) (refuse 5)
     (cond (eqb (size (x .tree)) (x .places)) (refuse 6)
-    (cond (ltb (length (x .freeGroups)) (splitsFor r x)) (refuse 7)
-    (accept (inserted id r x) [] (splitsFor r x)))))
+    (cond (ltb (length (x .freeGroups)) (splitsNeeded dot x)) (refuse 7)
+    (accept (inserted dot x) [] (splitsMade dot x)))))
 
 -- 'Answer yes or no.' 'Remove, cleanup, references: nothing further.'
 unfoldable pub removeRule : ℕ → AABB → Shape → Verdict ℕ Bool
@@ -95,54 +97,56 @@ queryRule q room x =
     let ids = listed q x in
     cond (ltb room (length ids)) (overflow (length ids)) (accept x ids (record { hits = length ids; opened = opensFor q x }))
 
+-- 'All: a query with the root's rectangle.'
+unfoldable pub allRule : ℕ → Shape → Verdict ℕ Listed
+allRule room x = queryRule (rootRect (x .settings)) room x
+
 unfoldable pub leavesRule : ℕ → Shape → Verdict ℤ ℕ
 leavesRule room x = let n = leafNumber x in cond (ltb room (6 * n)) (overflow n) (accept x (leaves x) n)
 
 -- ---- the batch
 
--- 'Kinds: 0 insert, 1 remove, 2 cleanup. An answer is splits, 1 or 0, or 4294967040 + refusal.' 'A record of another kind answers 9.'
 abbrev pub yesNo : Bool → ℕ
 yesNo true = 1
 yesNo false = 0
 
-abbrev pub shapeAfter : {B A : Type 0} → Shape → Verdict B A → Shape
-shapeAfter x (refuse k) = x
-shapeAfter x (overflow n) = x
-shapeAfter x (accept y words a) = y
+-- what a record leaves: the shape, and its answer word
+pub record Recorded : Type 0 where
+  pub shape : Shape
+  pub word : ℕ
 
-abbrev pub answerWord : {B A : Type 0} → (A → ℕ) → Verdict B A → ℕ
-answerWord f (refuse k) = 4294967040 + k
-answerWord f (overflow n) = 4294967040 + 8
-answerWord f (accept y words a) = f a
+-- 'An answer is splits, 1 or 0, or 4294967040 + refusal.' 'A refused record writes its own answer word and nothing else'
+abbrev pub refusedWord : ℕ → ℕ
+refusedWord k = 4294967040 + k
 
-abbrev pub recordAnswer : Record → Shape → ℕ
-recordAnswer r x =
-    cond (eqb (r .kind) 0) (answerWord (λ n. n) (insertRule (r .id) (r .rect) x))
-    (cond (eqb (r .kind) 1) (answerWord yesNo (removeRule (r .id) (r .rect) x))
-    (cond (eqb (r .kind) 2) (answerWord yesNo (cleanupRule x)) (4294967040 + 9)))
+abbrev pub recorded : {B A : Type 0} → (A → ℕ) → Shape → Verdict B A → Recorded
+recorded word x (refuse k) = record { shape = x; word = refusedWord k }
+recorded word x (overflow n) = record { shape = x; word = refusedWord 8 }
+recorded word x (accept y row a) = record { shape = y; word = word a }
 
--- 'A refused record writes its own answer word and nothing else; records after it go on.'
-abbrev pub recordShape : Record → Shape → Shape
-recordShape r x =
-    cond (eqb (r .kind) 0) (shapeAfter x (insertRule (r .id) (r .rect) x))
-    (cond (eqb (r .kind) 1) (shapeAfter x (removeRule (r .id) (r .rect) x))
-    (cond (eqb (r .kind) 2) (shapeAfter x (cleanupRule x)) x))
+-- 'Kinds: 0 insert, 1 remove, 2 cleanup.' 'A record of another kind answers 9.'
+unfoldable pub carryOut : Record → Shape → Recorded
+carryOut r x =
+    cond (eqb (r .kind) 0) (recorded (λ splits. splits) x (insertRule (r .dot) x))
+    (cond (eqb (r .kind) 1) (recorded yesNo x (removeRule (r .dot .id) (r .dot .rect) x))
+    (cond (eqb (r .kind) 2) (recorded yesNo x (cleanupRule x)) (record { shape = x; word = refusedWord 9 })))
 
+-- 'records after it go on': the fold of the single operations
 abbrev pub batchShape : List Record → Shape → Shape
 batchShape [] x = x
-batchShape (r ∷ rs) x = batchShape rs (recordShape r x)
+batchShape (r ∷ rs) x = batchShape rs (carryOut r x .shape)
 
-abbrev pub batchAnswers : List Record → Shape → List ℕ
-batchAnswers [] x = []
-batchAnswers (r ∷ rs) x = recordAnswer r x ∷ batchAnswers rs (recordShape r x)
+abbrev pub batchWords : List Record → Shape → List ℕ
+batchWords [] x = []
+batchWords (r ∷ rs) x = carryOut r x .word ∷ batchWords rs (carryOut r x .shape)
 
 unfoldable pub batchRule : List Record → Shape → Verdict ℕ (Unit {0})
-batchRule rs x = accept (batchShape rs x) (batchAnswers rs x) tt
+batchRule rs x = accept (batchShape rs x) (batchWords rs x) tt
 
 -- ---- the calls
 
-unfoldable pub Insert : World → ℕ → AABB → World → Reply ℕ → Type 0
-Insert w id r w′ reply = Obeys true (insertRule id r) w [] (exit w′ [] reply)
+unfoldable pub Insert : World → Dot → World → Reply ℕ → Type 0
+Insert w dot w′ reply = Obeys true (insertRule dot) w [] (exit w′ [] reply)
 
 unfoldable pub Remove : World → ℕ → AABB → World → Reply Bool → Type 0
 Remove w id r w′ reply = Obeys true (removeRule id r) w [] (exit w′ [] reply)
@@ -159,9 +163,8 @@ Query w q row w′ row′ reply = Obeys true (queryRule q (length row)) w row (e
 unfoldable pub Leaves : World → List ℤ → World → List ℤ → Reply ℕ → Type 0
 Leaves w row w′ row′ reply = Obeys true (leavesRule (length row)) w row (exit w′ row′ reply)
 
--- 'All: a query with the root's rectangle.'
 unfoldable pub All : World → List ℕ → World → List ℕ → Reply Listed → Type 0
-All w row w′ row′ reply = Query w (rootRect (w .state .settings)) row w′ row′ reply
+All w row w′ row′ reply = Obeys true (allRule (length row)) w row (exit w′ row′ reply)
 
 -- 'Batch: 1 covers rows of unequal length.' 'The check is made once.'
 unfoldable pub Batch : World → List Record → List ℕ → World → List ℕ → Reply (Unit {0}) → Type 0

@@ -13,9 +13,10 @@ use lib.Dec.{eqb, leb}
 use lib.ListN.{length, replicate}
 use Rattle.geometry.specs.declared.aabb.AABB.{AABB}
 use Rattle.model.specs.declared.State.{State}
+use Rattle.model.specs.declared.Dot.{Dot}
 use Rattle.model.specs.Lists.{joinBelow}
-use Rattle.geometry.specs.Rectangles.{zeroRect}
-use Rattle.model.specs.Trees.{Dot, Tree, leaf, branch, childNode, size}
+use Rattle.model.specs.Dots.{zeroDot}
+use Rattle.model.specs.Trees.{Placed, Tree, leaf, branch, childNode, size}
 use Rattle.model.specs.Shapes.{Shape, Valid}
 
 pub record World : Type 0 where
@@ -64,11 +65,11 @@ abbrev pub firstNode : List ℕ → ℕ
 firstNode [] = none
 firstNode (g ∷ gs) = childNode g 0
 
-abbrev pub firstDot : List Dot → ℕ
+abbrev pub firstDot : List Placed → ℕ
 firstDot [] = none
 firstDot (d ∷ ds) = d .place
 
--- a node with its two words, a place with its two words and its rectangle
+-- a node with its two words, a place with its dot and next
 pub record NodeEntry : Type 0 where
   pub node : ℕ
   pub first : ℕ
@@ -76,9 +77,8 @@ pub record NodeEntry : Type 0 where
 
 pub record PlaceEntry : Type 0 where
   pub place : ℕ
-  pub id : ℕ
+  pub dot : Dot
   pub next : ℕ
-  pub rect : AABB
 
 -- 'A leaf's first word is the place that heads its chain, or none'; 'a leaf's count is its chain's length';
 -- 'A branch is (first node of its group, 4294967295)'. The tree t stands at the node a.
@@ -95,17 +95,17 @@ freeGroupNodes (g ∷ gs) =
     ++ freeGroupNodes gs
 
 -- 'a chained dot's next is the place after it, or none'
-abbrev pub chainPlaces : List Dot → List PlaceEntry
+abbrev pub chainPlaces : List Placed → List PlaceEntry
 chainPlaces [] = []
-chainPlaces (d ∷ ds) = record { place = d .place; id = d .id; next = firstDot ds; rect = d .rect } ∷ chainPlaces ds
+chainPlaces (d ∷ ds) = record { place = d .place; dot = d .dot; next = firstDot ds } ∷ chainPlaces ds
 
 abbrev pub treePlaces : Tree → List PlaceEntry
 treePlaces (leaf chain) = chainPlaces chain
 treePlaces (branch g f) = joinBelow 5 (λ i. treePlaces (f i))
 
 -- 'A free place has id 0, rectangle 0,0,0,0 and next = the next free place or none': the free places are a chain of blank dots
-abbrev pub blank : ℕ → Dot
-blank p = record { place = p; id = 0; rect = zeroRect }
+abbrev pub blank : ℕ → Placed
+blank p = record { place = p; dot = zeroDot }
 
 -- the entries of a shape
 abbrev pub nodeEntries : Shape → List NodeEntry
@@ -119,16 +119,21 @@ abbrev pub nodeWords : List NodeEntry → ℕ → List ℕ
 nodeWords [] k = 0 ∷ 0 ∷ []
 nodeWords (e ∷ es) k = cond (eqb k (e .node)) (e .first ∷ e .count ∷ []) (nodeWords es k)
 
-abbrev pub dotWords : List PlaceEntry → ℕ → List ℕ
-dotWords [] k = 0 ∷ 0 ∷ []
-dotWords (e ∷ es) k = cond (eqb k (e .place)) (e .id ∷ e .next ∷ []) (dotWords es k)
+-- 'two words a place (id, next)'
+abbrev pub placeWords : Dot → ℕ → List ℕ
+placeWords d next = d .id ∷ next ∷ []
 
+abbrev pub dotWords : List PlaceEntry → ℕ → List ℕ
+dotWords [] k = placeWords zeroDot 0
+dotWords (e ∷ es) k = cond (eqb k (e .place)) (placeWords (e .dot) (e .next)) (dotWords es k)
+
+-- 'four words a place (rectangle)'
 abbrev pub rectWords : AABB → List ℤ
 rectWords r = r .x1 ∷ r .y1 ∷ r .x2 ∷ r .y2 ∷ []
 
 abbrev pub placeRect : List PlaceEntry → ℕ → List ℤ
-placeRect [] k = rectWords zeroRect
-placeRect (e ∷ es) k = cond (eqb k (e .place)) (rectWords (e .rect)) (placeRect es k)
+placeRect [] k = rectWords (zeroDot .rect)
+placeRect (e ∷ es) k = cond (eqb k (e .place)) (rectWords (e .dot .rect)) (placeRect es k)
 
 -- ---- the whole
 

@@ -4,7 +4,7 @@
 --     All P xs         P of every element
 --     upTo n           0, 1 .. n - 1
 --     count k xs       how often k stands in xs
-use mathlib.Core.Path.{_≡_, refl, ap, ap₂, sym, _∙_, subst}
+use mathlib.Core.Path.{_≡_, refl, ap, ap₂, sym, _∙_}
 use mathlib.Core.List.{List, [], _∷_, _++_}
 use mathlib.Core.Bool.{Bool, true, false, cond}
 use Prim.Native.Nat.{ℕ, zero, suc, _+_, _*_, _-_, _<_}
@@ -12,13 +12,6 @@ use native.Mathlib.Nat.{le-refl}
 use native.Mathlib.Omega.{arith}
 use lib.ListN.{length, length-append}
 use Rattle.model.specs.Sums.{indicator, sumOver, sumOver-append, sumBelow}
-
-pub true-false : {A : Type 0} → true ≡ false → A
-true-false e = absurd (subst (λ (b : Bool). lib.Dec.T b) e tt)
-
-pub byBool {ℓ} : {A : Type ℓ} (b : Bool) → (b ≡ true → A) → (b ≡ false → A) → A
-byBool true f g = f refl
-byBool false f g = g refl
 
 module _ {ℓ} {A : Type ℓ} where
   abbrev pub joinBelow : ℕ → (ℕ → List A) → List A

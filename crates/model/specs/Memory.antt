@@ -1,44 +1,55 @@
 -- The words read node by node and place by place: the relation that code is proved with. Laws.Memory shows that it and the layout say the same.
 --     Mem, memory  the words as functions of a node's or a place's number: a store into a row is a change of one of them
+--     firstAt, countAt, idAt, nextAt, rectAt, dotAt        where each word stands in its row
 --     Chained, Represents, FreeGroups      a chain, a tree at a node, the free groups
 --     Represented w x      the world w, read so, has the shape x
 use mathlib.Core.Path.{_≡_}
 use mathlib.Core.List.{List, [], _∷_, map}
 use Prim.Native.Nat.{ℕ, _+_, _*_, _≤_, _<_}
-use lib.IntN.{pos}
+use lib.IntN.{ℤ, pos}
 use lib.ListN.{length, getD}
 use Rattle.geometry.specs.declared.aabb.AABB.{AABB}
-use Rattle.model.specs.Trees.{Dot, Tree, leaf, branch, childNode, size}
+use Rattle.model.specs.declared.Dot.{Dot}
+use Rattle.model.specs.Trees.{Placed, Tree, leaf, branch, childNode, size}
 use Rattle.model.specs.Shapes.{Shape}
 use Rattle.model.specs.Layout.{World, none, branchMark, blank}
 
--- 'two words a node (first, count)'; 'two words a place (id, next)'; 'four words a place (rectangle)'
+-- the words of each node, and each place's dot and next
 pub record Mem : Type 0 where
   pub first : ℕ → ℕ
   pub count : ℕ → ℕ
-  pub id : ℕ → ℕ
+  pub dot : ℕ → Dot
   pub next : ℕ → ℕ
-  pub rect : ℕ → AABB
+
+-- 'two words a node (first, count)'
+abbrev pub firstAt : List ℕ → ℕ → ℕ
+firstAt nodes a = getD nodes (2 * a + 0) 0
+
+abbrev pub countAt : List ℕ → ℕ → ℕ
+countAt nodes a = getD nodes (2 * a + 1) 0
+
+-- 'two words a place (id, next)'
+abbrev pub idAt : List ℕ → ℕ → ℕ
+idAt dots p = getD dots (2 * p + 0) 0
+
+abbrev pub nextAt : List ℕ → ℕ → ℕ
+nextAt dots p = getD dots (2 * p + 1) 0
+
+-- 'four words a place (rectangle)'
+abbrev pub rectAt : List ℤ → ℕ → AABB
+rectAt rects p =
+    record { x1 = getD rects (4 * p + 0) (pos 0); y1 = getD rects (4 * p + 1) (pos 0); x2 = getD rects (4 * p + 2) (pos 0); y2 = getD rects (4 * p + 3) (pos 0) }
+
+abbrev pub dotAt : List ℕ → List ℤ → ℕ → Dot
+dotAt dots rects p = record { id = idAt dots p; rect = rectAt rects p }
 
 abbrev pub memory : World → Mem
-memory w =
-    record {
-      first = λ a. getD (w .nodes) (2 * a + 0) 0;
-      count = λ a. getD (w .nodes) (2 * a + 1) 0;
-      id = λ p. getD (w .dots) (2 * p + 0) 0;
-      next = λ p. getD (w .dots) (2 * p + 1) 0;
-      rect = λ p. record {
-        x1 = getD (w .rects) (4 * p + 0) (pos 0);
-        y1 = getD (w .rects) (4 * p + 1) (pos 0);
-        x2 = getD (w .rects) (4 * p + 2) (pos 0);
-        y2 = getD (w .rects) (4 * p + 3) (pos 0);
-      };
-    }
+memory w = record { first = firstAt (w .nodes); count = countAt (w .nodes); dot = dotAt (w .dots) (w .rects); next = nextAt (w .dots) }
 
 -- from the link h the places of the chain follow one another, and the last next is e (none, for a whole chain)
-abbrev pub Chained : Mem → ℕ → List Dot → ℕ → Type 0
+abbrev pub Chained : Mem → ℕ → List Placed → ℕ → Type 0
 Chained m h [] e = h ≡ e
-Chained m h (d ∷ ds) e = (h ≡ d .place) × (m .id (d .place) ≡ d .id) × (m .rect (d .place) ≡ d .rect) × Chained m (m .next (d .place)) ds e
+Chained m h (d ∷ ds) e = (h ≡ d .place) × (m .dot (d .place) ≡ d .dot) × Chained m (m .next (d .place)) ds e
 
 -- the tree stands at the node a
 abbrev pub Represents : Mem → ℕ → Tree → Type 0

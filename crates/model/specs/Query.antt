@@ -1,7 +1,7 @@
 -- Query, leaves and references on the tree (document 01, 'Query' and 'Batch, leaves, all, references').
 --     hits         the dots that a query lists, in its order
---     opened       the nodes that it opens
---     leavesOf     six numbers a leaf
+--     opened       how many nodes it opens
+--     leavesOf, leafCount  six numbers a leaf; how many leaves
 use mathlib.Core.List.{List, [], _∷_}
 use mathlib.Core.Bool.{cond}
 use Prim.Native.Nat.{ℕ, _+_}
@@ -9,16 +9,16 @@ use lib.IntN.{ℤ, pos}
 use lib.ListN.{length}
 use Rattle.geometry.specs.declared.aabb.AABB.{AABB}
 use Rattle.geometry.specs.declared.node_data.NodeData.{NodeData}
+use Rattle.geometry.specs.Cells.{routeCell, mayDivide, childData, opens}
 use Rattle.model.specs.Sums.{sumBelow}
 use Rattle.model.specs.Lists.{joinBelow, filter}
-use Rattle.geometry.specs.Rectangles.{intersects}
-use Rattle.model.specs.Trees.{Dot, Tree, leaf, branch}
-use Rattle.geometry.specs.Cells.{routeCell, mayDivide, childData, opens}
+use Rattle.model.specs.Dots.{isHit}
+use Rattle.model.specs.Trees.{Placed, Tree, leaf, branch}
 
 module _ (q : AABB) where
   -- 'opens the root; in a branch child 0 first, then of 1 to 4 those with both tests true'; 'intersecting ids in that order, chain by chain'
-  abbrev pub hits : NodeData → Tree → List Dot
-  hits n (leaf chain) = filter (λ d. intersects q (d .rect)) chain
+  abbrev pub hits : NodeData → Tree → List Placed
+  hits n (leaf chain) = filter (λ d. isHit q (d .dot)) chain
   hits n (branch g f) = joinBelow 5 (λ i. cond (opens q n i) (hits (childData n i) (f i)) [])
 
   -- 'the nodes opened, root included'
@@ -27,7 +27,7 @@ module _ (q : AABB) where
   opened n (branch g f) = 1 + sumBelow 5 (λ i. cond (opens q n i) (opened (childData n i) (f i)) 0)
 
 -- 'per leaf six i32: centre x, centre y, half width, half height, depth, count'
-abbrev pub leafWords : NodeData → List Dot → List ℤ
+abbrev pub leafWords : NodeData → List Placed → List ℤ
 leafWords n chain =
     let c = n .cell in c .«center_x» ∷ c .«center_y» ∷ c .«half_width» ∷ c .«half_height» ∷ pos (n .depth) ∷ pos (length chain) ∷ []
 

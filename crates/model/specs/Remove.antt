@@ -4,26 +4,26 @@
 use mathlib.Core.List.{List, [], _∷_}
 use mathlib.Core.Bool.{Bool, true, false, cond}
 use Prim.Native.Nat.{ℕ}
-use lib.Dec.{eqb}
 use Rattle.geometry.specs.declared.aabb.AABB.{AABB}
 use Rattle.geometry.specs.declared.node_data.NodeData.{NodeData}
-use Rattle.model.specs.Sums.{changed}
-use Rattle.model.specs.Trees.{Dot, Tree, leaf, branch}
 use Rattle.geometry.specs.Cells.{routeCell, mayDivide, childData, route}
+use Rattle.model.specs.Sums.{changed}
+use Rattle.model.specs.Dots.{matches}
+use Rattle.model.specs.Trees.{Placed, Tree, leaf, branch}
 
-abbrev pub firstHas : ℕ → List Dot → Bool
+abbrev pub firstHas : ℕ → List Placed → Bool
 firstHas id [] = false
-firstHas id (d ∷ ds) = cond (eqb id (d .id)) true (firstHas id ds)
+firstHas id (d ∷ ds) = cond (matches id (d .dot)) true (firstHas id ds)
 
-abbrev pub firstOut : ℕ → List Dot → List Dot
+abbrev pub firstOut : ℕ → List Placed → List Placed
 firstOut id [] = []
-firstOut id (d ∷ ds) = cond (eqb id (d .id)) ds (d ∷ firstOut id ds)
+firstOut id (d ∷ ds) = cond (matches id (d .dot)) ds (d ∷ firstOut id ds)
 
-abbrev pub firstPlace : ℕ → List Dot → ℕ
+abbrev pub firstPlace : ℕ → List Placed → ℕ
 firstPlace id [] = 0
-firstPlace id (d ∷ ds) = cond (eqb id (d .id)) (d .place) (firstPlace id ds)
+firstPlace id (d ∷ ds) = cond (matches id (d .dot)) (d .place) (firstPlace id ds)
 
--- 'Remove takes any rectangle, routes it to one leaf .. Its rectangle isn't compared.'
+-- 'Remove takes any rectangle, routes it to one leaf'
 module _ (id : ℕ) (r : AABB) where
   abbrev pub removeSays : NodeData → Tree → Bool
   removeSays n (leaf chain) = firstHas id chain

@@ -2,7 +2,8 @@
 --     Shape        settings, G, N, the tree with its addresses, the free groups and the free places in the order of their lists
 --     Valid        the rules of 'The memory is a tree' that speak of the tree
 --     fresh        the shape that an accepted make leaves
---     inserted, removed, cleaned   the shapes that the calls leave; splitsFor, foundBy, cleans: what they answer
+--     inserted, removed, cleaned   the shapes that the calls leave; splitsMade, foundBy, cleans: what they answer
+--     splitsNeeded the splits that refusal 7 asks about
 --     listed, opensFor, leaves, references     what the reading calls answer
 use mathlib.Core.Path.{_≡_}
 use mathlib.Core.List.{List, [], _∷_, map}
@@ -14,11 +15,13 @@ use lib.Dec.{ltb}
 use Rattle.geometry.specs.declared.aabb.AABB.{AABB}
 use Rattle.geometry.specs.declared.settings.Settings.{Settings}
 use Rattle.geometry.specs.declared.node_data.NodeData.{NodeData}
+use Rattle.geometry.specs.Settings.{inRange, D}
+use Rattle.geometry.specs.Cells.{routeCell, mayDivide, rootData, childData, maySplit}
+use Rattle.model.specs.declared.Dot.{Dot}
 use Rattle.model.specs.Lists.{All, upTo, count}
-use Rattle.geometry.specs.Settings.{rootOf, inRange, D, acceptable}
-use Rattle.geometry.specs.Cells.{routeCell, mayDivide, rootData, childData, route, maySplit}
-use Rattle.model.specs.Trees.{Dot, Tree, leaf, branch, groupCount, placeCount, AllDots, size}
-use Rattle.model.specs.Insert.{insertAt, splitsNeeded}
+use Rattle.model.specs.Dots.{acceptableDot}
+use Rattle.model.specs.Trees.{Placed, Tree, leaf, branch, groupCount, placeCount, AllDots, size}
+use Rattle.model.specs.Insert.{Grown, routeDot, insertAt}
 use Rattle.model.specs.Remove.{removeSays, removeAt, removePlace}
 use Rattle.model.specs.Cleanup.{isZero, cleanTree, freedBy, turned}
 use Rattle.model.specs.Query.{hits, opened, leavesOf, leafCount}
@@ -39,10 +42,10 @@ below k n = cond (ltb k n) 1 0
 -- wouldn't refuse and stands in the leaf it routes to'; 'a leaf's count is .. at most the leaf limit if it may split'.
 -- The last part is no rule of the document: it says that a branch has no child beyond 4, so that a memory has one shape at most.
 abbrev pub WellFormed : Settings → NodeData → Tree → Type 0
-WellFormed s n (leaf chain) = All (λ d. acceptable s (d .rect) ≡ true) chain × (maySplit s n ≡ true → length chain ≤ s .«leaf_limit»)
+WellFormed s n (leaf chain) = All (λ d. acceptableDot s (d .dot) ≡ true) chain × (maySplit s n ≡ true → length chain ≤ s .«leaf_limit»)
 WellFormed s n (branch g f) =
     (maySplit s n ≡ true)
-    × ((i : ℕ) → i < 5 → AllDots (λ d. route n (d .rect) ≡ i) (f i) × WellFormed s (childData n i) (f i))
+    × ((i : ℕ) → i < 5 → AllDots (λ d. routeDot n d ≡ i) (f i) × WellFormed s (childData n i) (f i))
     × ((i : ℕ) → 5 ≤ i → f i ≡ leaf [])
 
 pub record Valid (x : Shape) : Type 0 where
@@ -77,15 +80,23 @@ abbrev pub tailOf : List ℕ → List ℕ
 tailOf [] = []
 tailOf (k ∷ ks) = ks
 
--- Insert: the splits, and the shape
-unfoldable pub splitsFor : AABB → Shape → ℕ
-splitsFor r x = splitsNeeded (x .settings) (D (x .settings)) (root x) r (x .tree)
+-- Insert: the dot at the place that it will have, and what the insert leaves where the free groups are `free`
+abbrev pub placedIn : Dot → Shape → Placed
+placedIn dot x = record { place = headOf (x .freePlaces); dot = dot }
 
-unfoldable pub inserted : ℕ → AABB → Shape → Shape
-inserted id r x =
-    let dot : Dot = record { place = headOf (x .freePlaces); id = id; rect = r } in
-    let grown = insertAt (x .settings) (D (x .settings)) (root x) dot (x .tree) (x .freeGroups) in
-    reshaped x (grown .tree) (grown .free) (tailOf (x .freePlaces))
+abbrev pub grownBy : Dot → Shape → List ℕ → Grown
+grownBy dot x free = insertAt (x .settings) (D (x .settings)) (root x) (placedIn dot x) (x .tree) free
+
+-- 'The answer is the number of splits.'
+unfoldable pub splitsMade : Dot → Shape → ℕ
+splitsMade dot x = grownBy dot x (x .freeGroups) .splits
+
+-- 'splits needed': the splits that the same insert makes with groups enough. D are enough (`splits-enough` of Laws.Splitting).
+unfoldable pub splitsNeeded : Dot → Shape → ℕ
+splitsNeeded dot x = grownBy dot x (upTo (D (x .settings))) .splits
+
+unfoldable pub inserted : Dot → Shape → Shape
+inserted dot x = let grown = grownBy dot x (x .freeGroups) in reshaped x (grown .tree) (grown .free) (tailOf (x .freePlaces))
 
 -- Remove: yes or no, and the shape after a yes
 unfoldable pub foundBy : ℕ → AABB → Shape → Bool
@@ -103,7 +114,7 @@ cleaned x = reshaped x (cleanTree (x .tree)) (freedBy (x .tree) (x .freeGroups))
 
 -- Query
 unfoldable pub listed : AABB → Shape → List ℕ
-listed q x = map (λ d. d .id) (hits q (root x) (x .tree))
+listed q x = map (λ d. d .dot .id) (hits q (root x) (x .tree))
 
 unfoldable pub opensFor : AABB → Shape → ℕ
 opensFor q x = opened q (root x) (x .tree)

@@ -1,31 +1,30 @@
 -- The tree with its addresses (document 01, 'Settings and lent memory'): which group a branch has, at which place each dot stands.
---     Dot, Tree
+--     Placed, Tree
 --     childNode    the nodes of a group
 --     sumDots, sumGroups   a weight, summed over the dots or the groups; a count is the sum of an indicator
 --     dots         all dots, in the order of the query's walk
 use mathlib.Core.Path.{_≡_, refl, _∙_}
 use mathlib.Core.List.{List}
 use Prim.Native.Nat.{ℕ, zero, suc, _+_, _*_, _<_}
-use Rattle.geometry.specs.declared.aabb.AABB.{AABB}
+use Rattle.model.specs.declared.Dot.{Dot}
 use Rattle.model.specs.Sums.{indicator, sumOver, sumBelow, sumBelow-ext}
 use Rattle.model.specs.Lists.{joinBelow, All, sumOver-joinBelow, all-joinBelow}
 
--- 'A dot is an element: id (u32) and rectangle x1, y1, x2, y2 (i32)', here with the place where it stands
-pub record Dot : Type 0 where
+-- a dot with the place where it stands
+pub record Placed : Type 0 where
   pub place : ℕ
-  pub id : ℕ
-  pub rect : AABB
+  pub dot : Dot
 
 -- A leaf has its chain, head first. A branch has its group's number and its children 0 to 4; what the function says beyond 4 means nothing.
 pub data Tree : Type 0 where
-  leaf : List Dot → Tree
+  leaf : List Placed → Tree
   branch : ℕ → (ℕ → Tree) → Tree
 
 -- 'group k is nodes 1 + 5k to 5 + 5k'
 abbrev pub childNode : ℕ → ℕ → ℕ
 childNode group i = 1 + 5 * group + i
 
-abbrev pub sumDots : (Dot → ℕ) → Tree → ℕ
+abbrev pub sumDots : (Placed → ℕ) → Tree → ℕ
 sumDots h (leaf chain) = sumOver h chain
 sumDots h (branch g f) = sumBelow 5 (λ i. sumDots h (f i))
 
@@ -33,7 +32,7 @@ abbrev pub sumGroups : (ℕ → ℕ) → Tree → ℕ
 sumGroups h (leaf chain) = 0
 sumGroups h (branch g f) = h g + sumBelow 5 (λ i. sumGroups h (f i))
 
-abbrev pub atPlace : ℕ → Dot → ℕ
+abbrev pub atPlace : ℕ → Placed → ℕ
 atPlace k d = indicator k (d .place)
 
 -- how often a place, a group, stands in the tree; how many dots it has
@@ -46,11 +45,11 @@ groupCount k t = sumGroups (indicator k) t
 abbrev pub size : Tree → ℕ
 size t = sumDots (λ d. 1) t
 
-abbrev pub dots : Tree → List Dot
+abbrev pub dots : Tree → List Placed
 dots (leaf chain) = chain
 dots (branch g f) = joinBelow 5 (λ i. dots (f i))
 
-abbrev pub AllDots : (Dot → Type 0) → Tree → Type 0
+abbrev pub AllDots : (Placed → Type 0) → Tree → Type 0
 AllDots P (leaf chain) = All P chain
 AllDots P (branch g f) = (i : ℕ) → i < 5 → AllDots P (f i)
 
@@ -60,11 +59,11 @@ Shallow n (leaf chain) = Unit {0}
 Shallow zero (branch g f) = ⊥
 Shallow (suc n) (branch g f) = (i : ℕ) → i < 5 → Shallow n (f i)
 
-pub sumDots-dots : (h : Dot → ℕ) (t : Tree) → sumOver h (dots t) ≡ sumDots h t
+pub sumDots-dots : (h : Placed → ℕ) (t : Tree) → sumOver h (dots t) ≡ sumDots h t
 sumDots-dots h (leaf c) = refl
 sumDots-dots h (branch g f) =
     sumOver-joinBelow h 5 (λ i. dots (f i)) ∙ sumBelow-ext 5 (λ i. sumOver h (dots (f i))) (λ i. sumDots h (f i)) (λ i b. sumDots-dots h (f i))
 
-pub allDots-dots : (P : Dot → Type 0) (t : Tree) → AllDots P t → All P (dots t)
+pub allDots-dots : (P : Placed → Type 0) (t : Tree) → AllDots P t → All P (dots t)
 allDots-dots P (leaf c) a = a
 allDots-dots P (branch g f) a = all-joinBelow P 5 (λ i. dots (f i)) (λ i b. allDots-dots P (f i) (a i b))

@@ -11,13 +11,15 @@ use lib.IntN.{pos, negsuc}
 use lib.Dec.{eqb}
 use Rattle.geometry.specs.declared.aabb.AABB.{AABB}
 use Rattle.geometry.specs.declared.settings.Settings.{Settings}
+use Rattle.model.specs.declared.Dot.{Dot}
 use Rattle.model.specs.Sums.{indicator, changed}
+use Rattle.model.specs.Dots.{isHit, matches}
 use Rattle.geometry.specs.Rectangles.{flat, intersects, middle, within, inverted, near, farOut}
 use Rattle.geometry.specs.Settings.{rootOf, W, bitsWithin, bitLength, halvings, D, contains, rootRect}
 use Rattle.geometry.specs.Cells.{routeCell, mayDivide, rootCell, rootData, childCentre, quarterCell, childCell, childData, quadrant, route, bothTests, opens, maySplit}
-use Rattle.model.specs.Shapes.{Shape, fresh, inserted, splitsFor, removed, foundBy, cleaned, cleans, listed, opensFor}
+use Rattle.model.specs.Shapes.{Shape, fresh, inserted, splitsMade, splitsNeeded, removed, foundBy, cleaned, cleans, listed, opensFor}
 use Rattle.model.specs.Layout.{none, branchMark, layout}
-use Rattle.model.specs.Calls.{Verdict, refuse, overflow, accept, shapeAfter, answerWord, yesNo, Listed, insertRule, removeRule, cleanupRule, queryRule}
+use Rattle.model.specs.Calls.{Verdict, refuse, overflow, accept, Recorded, recorded, refusedWord, yesNo, Listed, insertRule, removeRule, cleanupRule, queryRule, allRule}
 use Rattle.arithmetic.specs.Ints.{maxZ, minZ}
 
 -- 'Root 0,0,16,16, limits as above' (depth limit 2, smallest cell 1) with a leaf limit
@@ -36,10 +38,7 @@ settings leafLimit =
 abbrev rect : ℕ → ℕ → ℕ → ℕ → AABB
 rect x1 y1 x2 y2 = record { x1 = pos x1; y1 = pos y1; x2 = pos x2; y2 = pos y2 }
 
--- an answer word as the batch writes it: splits, 1 or 0, or 4294967040 + refusal
-abbrev refusedWith : ℕ → ℕ
-refusedWith k = 4294967040 + k
-
+-- an answer is the word that the batch writes: splits, 1 or 0, or 4294967040 + refusal
 pub data Line : Type 0 where
   insert : ℕ → AABB → ℕ → Line
   remove : ℕ → AABB → ℕ → Line
@@ -83,10 +82,10 @@ opensJust (accept x row a) n = eqb (a .opened) n
 
 abbrev passLines : Shape → List Line → Bool
 passLines x [] = true
-passLines x (insert id r word ∷ ls) = let v = insertRule id r x in eqb (answerWord (λ n. n) v) word && passLines (shapeAfter x v) ls
-passLines x (remove id r word ∷ ls) = let v = removeRule id r x in eqb (answerWord yesNo v) word && passLines (shapeAfter x v) ls
-passLines x (cleanup word ∷ ls) = let v = cleanupRule x in eqb (answerWord yesNo v) word && passLines (shapeAfter x v) ls
-passLines x (all ids ∷ ls) = lists (queryRule (rootRect (x .settings)) 8 x) ids && passLines x ls
+passLines x (insert id r word ∷ ls) = let v = recorded (λ n. n) x (insertRule (record { id = id; rect = r }) x) in eqb (v .word) word && passLines (v .shape) ls
+passLines x (remove id r word ∷ ls) = let v = recorded yesNo x (removeRule id r x) in eqb (v .word) word && passLines (v .shape) ls
+passLines x (cleanup word ∷ ls) = let v = recorded yesNo x (cleanupRule x) in eqb (v .word) word && passLines (v .shape) ls
+passLines x (all ids ∷ ls) = lists (allRule 8 x) ids && passLines x ls
 passLines x (words nodes dots ∷ ls) = sameList (layout x .nodes) nodes && sameList (layout x .dots) dots && passLines x ls
 passLines x (query q ids opened ∷ ls) = lists (queryRule q 8 x) ids && opensJust (queryRule q 8 x) opened && passLines x ls
 
@@ -125,7 +124,7 @@ table =
     insert 1 (rect 1 1 2 2) 0 ∷ insert 2 (rect 3 3 3 3) 2 ∷ remove 1 (rect 1 1 2 2) 1 ∷ remove 2 (rect 3 3 3 3) 1
     ∷ cleanup 1 ∷ cleanup 1 ∷ cleanup 0 ∷ []
     )
-    ∷ calls 1 1 (insert 1 (rect 1 1 2 2) 0 ∷ insert 2 (rect 3 3 3 3) (refusedWith 7) ∷ [])
+    ∷ calls 1 1 (insert 1 (rect 1 1 2 2) 0 ∷ insert 2 (rect 3 3 3 3) (refusedWord 7) ∷ [])
     -- 'Remove of id 1 (at 1,1,2,2, after dotcheck's three inserts) by 3,3,4,4: yes; by 9,1,10,2: no.'
     ∷ calls 2 8 (three (remove 1 (rect 3 3 4 4) 1 ∷ []))
     ∷ calls 2 8 (three (remove 1 (rect 9 1 10 2) 0 ∷ []))
@@ -136,7 +135,7 @@ abbrev pub further : List Trial
 further =
     deepest 2
     ∷ calls 2 8 (three (
-    insert 4 (rect 16 16 18 18) (refusedWith 5) ∷ query (rect 0 0 8 8) (3 ∷ 1 ∷ []) 3 ∷ remove 3 (rect 7 7 9 9) 1 ∷ cleanup 0 ∷ []
+    insert 4 (rect 16 16 18 18) (refusedWord 5) ∷ query (rect 0 0 8 8) (3 ∷ 1 ∷ []) 3 ∷ remove 3 (rect 7 7 9 9) 1 ∷ cleanup 0 ∷ []
     ))
     ∷ calls 2 1 (three (
     words
@@ -149,9 +148,9 @@ further =
     ∷ []
 
 pub all-pass : passAll table ≡ true
-unfolding flat intersects middle within inverted near farOut W bitsWithin bitLength halvings D contains rootRect rootCell rootData childCentre quarterCell childCell childData quadrant routeCell bothTests opens mayDivide fresh inserted splitsFor removed foundBy cleaned cleans listed opensFor insertRule removeRule cleanupRule queryRule indicator changed maxZ minZ
+unfolding flat intersects middle within inverted near farOut W bitsWithin bitLength halvings D contains rootRect rootCell rootData childCentre quarterCell childCell childData quadrant routeCell bothTests opens mayDivide fresh inserted splitsMade splitsNeeded removed foundBy cleaned cleans listed opensFor insertRule removeRule cleanupRule queryRule allRule isHit matches indicator changed maxZ minZ
 all-pass = refl
 
 pub further-pass : passAll further ≡ true
-unfolding flat intersects middle within inverted near farOut W bitsWithin bitLength halvings D contains rootRect rootCell rootData childCentre quarterCell childCell childData quadrant routeCell bothTests opens mayDivide fresh inserted splitsFor removed foundBy cleaned cleans listed opensFor insertRule removeRule cleanupRule queryRule indicator changed maxZ minZ layout none branchMark
+unfolding flat intersects middle within inverted near farOut W bitsWithin bitLength halvings D contains rootRect rootCell rootData childCentre quarterCell childCell childData quadrant routeCell bothTests opens mayDivide fresh inserted splitsMade splitsNeeded removed foundBy cleaned cleans listed opensFor insertRule removeRule cleanupRule queryRule allRule isHit matches indicator changed maxZ minZ layout none branchMark
 further-pass = refl

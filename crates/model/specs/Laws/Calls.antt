@@ -9,33 +9,33 @@ use Prim.Native.Nat.{ℕ, _+_, _≤_}
 use native.Mathlib.Decide.{decLe}
 use native.Mathlib.Omega.{arith}
 use lib.ListN.{length, drop}
-use lib.Dec.{eqb, ltb, T}
+use lib.Dec.{eqb, ltb}
 use Rattle.geometry.specs.declared.aabb.AABB.{AABB}
 use Rattle.model.specs.Sums.{byDec}
-use Rattle.model.specs.Lists.{byBool, true-false}
+use Rattle.arithmetic.specs.Tests.{byBool, true-false}
 use Rattle.geometry.specs.Rectangles.{inverted, farOut}
 use Rattle.geometry.specs.Settings.{rootOf, contains, acceptable}
+use Rattle.model.specs.declared.Dot.{Dot}
+use Rattle.model.specs.Dots.{acceptableDot}
 use Rattle.model.specs.Trees.{size}
-use Rattle.model.specs.Shapes.{Shape, Valid, inserted, splitsFor, removed, foundBy, cleaned, cleans, listed, opensFor}
+use Rattle.model.specs.Shapes.{Shape, Valid, inserted, splitsMade, splitsNeeded, removed, foundBy, cleaned, cleans, listed, opensFor}
 use Rattle.model.specs.Layout.{World, Holds}
 use Rattle.model.specs.Calls.{Reply, tooMany, answered, refuse, overflow, accept, Exit, exit, carriedOut, Listed, insertRule, removeRule, cleanupRule, queryRule, Insert, Remove, Cleanup, Query}
 use Rattle.model.specs.Book.{accepted}
-use Rattle.model.specs.Laws.Remove.{eqb-same}
+use borrow.Author.Tests.{eq-eqb, ltb-false}
 use Rattle.model.specs.Laws.Shapes.{live-and-free, inserted-valid, removed-valid, cleaned-valid}
 use Rattle.model.specs.Laws.Layout.{layout-holds, cleared-holds, obeys-tree}
 
 -- the insert is refused, or what it needs is there
-abbrev pub Goes : ℕ → AABB → Shape → Type 0
-Goes id r x =
-    (acceptable (x .settings) r ≡ true) × (1 ≤ length (x .freePlaces)) × (splitsFor r x ≤ length (x .freeGroups))
-    × (insertRule id r x ≡ accept (inserted id r x) [] (splitsFor r x))
+abbrev pub Goes : Dot → Shape → Type 0
+Goes dot x =
+    (acceptableDot (x .settings) dot ≡ true) × (1 ≤ length (x .freePlaces)) × (splitsNeeded dot x ≤ length (x .freeGroups))
+    × (insertRule dot x ≡ accept (inserted dot x) [] (splitsMade dot x))
 
-pub ltb-no : (m n : ℕ) → ltb m n ≡ false → n ≤ m
-ltb-no m n e = lib.Dec.nltb→le m n (subst (λ (b : Bool). T (not b)) (sym e) tt)
-
-pub insert-cases : (id : ℕ) (r : AABB) (x : Shape) → Valid x → ((k : ℕ) × (insertRule id r x ≡ refuse k)) ⊎ Goes id r x
-unfolding insertRule acceptable
-insert-cases id r x v =
+pub insert-cases : (dot : Dot) (x : Shape) → Valid x → ((k : ℕ) × (insertRule dot x ≡ refuse k)) ⊎ Goes dot x
+unfolding insertRule acceptable acceptableDot
+insert-cases dot x v =
+    let r = dot .rect in
     byBool (inverted r || farOut r)
     (λ e₄. inl (4, rw e₄ refl))
     (λ e₄.
@@ -44,17 +44,14 @@ insert-cases id r x v =
     byBool (eqb (size (x .tree)) (x .places))
     (λ e₆. inl (6, rw (e₄, e₅, e₆) refl))
     (λ e₆.
-    byBool (ltb (length (x .freeGroups)) (splitsFor r x))
+    byBool (ltb (length (x .freeGroups)) (splitsNeeded dot x))
     (λ e₇. inl (7, rw (e₄, e₅, e₆, e₇) refl))
     (λ e₇.
     let room : 1 ≤ length (x .freePlaces) =
     byDec (decLe 1 (length (x .freePlaces))) (λ h. h)
-    (λ h. true-false (sym (eqb-eq (size (x .tree)) (x .places) (omega (arith, live-and-free x v))) ∙ e₆)) in
-    inr (rw (e₄, e₅) refl, room, ltb-no (length (x .freeGroups)) (splitsFor r x) e₇, rw (e₄, e₅, e₆, e₇) refl))))
+    (λ h. true-false (sym (eq-eqb (size (x .tree)) (x .places) (omega (arith, live-and-free x v))) ∙ e₆)) in
+    inr (rw (e₄, e₅) refl, room, ltb-false (length (x .freeGroups)) (splitsNeeded dot x) e₇, rw (e₄, e₅, e₆, e₇) refl))))
     (λ e₅. inl (5, rw (e₄, e₅) refl)))
-  where
-    eqb-eq : (m n : ℕ) → m ≡ n → eqb m n ≡ true
-    eqb-eq m n e = ap (λ (y : ℕ). eqb m y) (sym e) ∙ eqb-same m
 
 module _ {B A : Type 0} where
   pub world-of : {e f : Exit B A} → e ≡ f → e .world ≡ f .world
@@ -67,21 +64,21 @@ module _ {B A : Type 0} where
   reply-of p = ap (λ e. e .reply) p
 
 -- the insert refused: the shape is as it was
-module _ (w : World) (id : ℕ) (r : AABB) (v : World) (reply : Reply ℕ) (call : Insert w id r v reply) (x : Shape) (h : Holds w x) where
-  pub insert-exit : exit v [] reply ≡ carriedOut w [] (insertRule id r x)
+module _ (w : World) (dot : Dot) (v : World) (reply : Reply ℕ) (call : Insert w dot v reply) (x : Shape) (h : Holds w x) where
+  pub insert-exit : exit v [] reply ≡ carriedOut w [] (insertRule dot x)
   unfolding Insert
-  insert-exit = obeys-tree (insertRule id r) w [] (exit v [] reply) call x h
+  insert-exit = obeys-tree (insertRule dot) w [] (exit v [] reply) call x h
 
-  pub insert-refused : (k : ℕ) → insertRule id r x ≡ refuse k → Holds v x × (accepted reply ≡ false)
+  pub insert-refused : (k : ℕ) → insertRule dot x ≡ refuse k → Holds v x × (accepted reply ≡ false)
   insert-refused k e =
       let p = insert-exit ∙ ap (carriedOut w []) e in
       (subst (λ (u : World). Holds u x) (sym (world-of p)) (cleared-holds w x h), ap accepted (reply-of p))
 
-  pub insert-accepted : Goes id r x → Holds v (inserted id r x) × (accepted reply ≡ true)
+  pub insert-accepted : Goes dot x → Holds v (inserted dot x) × (accepted reply ≡ true)
   insert-accepted g =
       let p = insert-exit ∙ ap (carriedOut w []) (g .3) in
-      let y = inserted id r x in (
-        subst (λ (u : World). Holds u y) (sym (world-of p)) (layout-holds y (inserted-valid id r x (h .valid) (g .0) (g .1) (g .2))),
+      let y = inserted dot x in (
+        subst (λ (u : World). Holds u y) (sym (world-of p)) (layout-holds y (inserted-valid dot x (h .valid) (g .0) (g .1) (g .2))),
         ap accepted (reply-of p),
       )
 

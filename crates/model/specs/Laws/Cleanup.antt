@@ -13,8 +13,9 @@ use native.Mathlib.Omega.{arith}
 use Rattle.geometry.specs.declared.settings.Settings.{Settings}
 use Rattle.geometry.specs.declared.node_data.NodeData.{NodeData}
 use Rattle.model.specs.Sums.{sumOver, sumOver-one, sumBelow, sumBelow-ext, sumBelow-term, sumBelow-zero, sumBelow-some, byDec}
-use Rattle.model.specs.Lists.{byBool, true-false}
-use Rattle.model.specs.Trees.{Dot, Tree, leaf, branch, sumDots, sumGroups, AllDots, Shallow, size}
+use Rattle.arithmetic.specs.Tests.{byBool, true-false}
+use Rattle.model.specs.Trees.{Placed, Tree, leaf, branch, sumDots, sumGroups, AllDots, Shallow, size}
+use Rattle.model.specs.Insert.{routeDot}
 use Rattle.geometry.specs.Cells.{routeCell, mayDivide, childData, route}
 use Rattle.model.specs.Cleanup.{isZero, busy, allEmpty, cleanTree, downFrom, freedBy, turned}
 use Rattle.model.specs.Laws.Query.{Routed, Clean, clean-live}
@@ -38,7 +39,7 @@ children-empty f e i b = busy-zero (f i) (omega (arith, sumBelow-term 5 (λ j. b
 
 -- ---- the dots stay
 
-pub clean-sum : (h : Dot → ℕ) (t : Tree) → sumDots h (cleanTree t) ≡ sumDots h t
+pub clean-sum : (h : Placed → ℕ) (t : Tree) → sumDots h (cleanTree t) ≡ sumDots h t
 clean-sum h (leaf c) = refl
 clean-sum h (branch g f) =
     byBool (allEmpty f)
@@ -133,7 +134,7 @@ clean-groups h (branch g f) free =
     (λ e. rw e (omega (arith, sumBelow-zero 5 (λ i. sumGroups h (f i)) (λ i b. ap (sumGroups h) (children-empty f (zero-is (sumBelow 5 (λ i. busy (f i))) e) i b)))))
     (λ e. rw e (omega (arith, down-sum h 5 f free (λ i x. clean-groups h (f i) x))))
 
-pub clean-all : (P : Dot → Type 0) (t : Tree) → AllDots P t → AllDots P (cleanTree t)
+pub clean-all : (P : Placed → Type 0) (t : Tree) → AllDots P t → AllDots P (cleanTree t)
 clean-all P (leaf c) a = a
 clean-all P (branch g f) a = byBool (allEmpty f) (λ e. rw e tt) (λ e. rw e (λ i b. clean-all P (f i) (a i b)))
 
@@ -146,7 +147,7 @@ pub clean-routed : (c : NodeData) (t : Tree) → Routed c t → Routed c (cleanT
 clean-routed c (leaf ds) r = tt
 clean-routed c (branch g f) r =
     byBool (allEmpty f) (λ e. rw e tt)
-    (λ e. rw e (λ i b. (clean-all (λ d. route c (d .rect) ≡ i) (f i) (r i b .0), clean-routed (childData c i) (f i) (r i b .1))))
+    (λ e. rw e (λ i b. (clean-all (λ d. routeDot c d ≡ i) (f i) (r i b .0), clean-routed (childData c i) (f i) (r i b .1))))
 
 pub clean-tidy : (t : Tree) → Clean t → Tidy 0 t
 clean-tidy (leaf c) k = tt
@@ -158,4 +159,4 @@ module _ (S : Settings) where
   clean-valid c (branch g f) v =
       byBool (allEmpty f)
       (λ e. rw e (tt, λ m. omega arith))
-      (λ e. rw e (v .0, λ i b. (clean-all (λ d. route c (d .rect) ≡ i) (f i) (v .1 i b .0), clean-valid (childData c i) (f i) (v .1 i b .1)), λ i b. ap cleanTree (v .2 i b)))
+      (λ e. rw e (v .0, λ i b. (clean-all (λ d. routeDot c d ≡ i) (f i) (v .1 i b .0), clean-valid (childData c i) (f i) (v .1 i b .1)), λ i b. ap cleanTree (v .2 i b)))

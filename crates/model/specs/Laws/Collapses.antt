@@ -11,7 +11,7 @@ use native.Mathlib.Nat.{not-suc-le-zero, le-refl}
 use native.Mathlib.Decide.{ℕ-discrete}
 use native.Mathlib.Omega.{arith}
 use Rattle.model.specs.Sums.{indicator, indicator-same, indicator-other, sumOver, sumBelow, sumBelow-ext, sumBelow-term, changed, changed-same, changed-other, byDec}
-use Rattle.model.specs.Lists.{byBool}
+use Rattle.arithmetic.specs.Tests.{byBool}
 use Rattle.model.specs.Trees.{Tree, leaf, branch, childNode}
 use Rattle.model.specs.Layout.{none}
 use Rattle.model.specs.Memory.{Mem, Represents, FreeGroups}
@@ -68,7 +68,7 @@ kids-clean : (g n : ℕ) (f : ℕ → Tree) → ((i a : ℕ) (s : Walk) (free : 
     → (s : Walk) (free : List ℕ) → ((k : ℕ) → sumBelow n (λ j. nodeCount k (childNode g j) (f j)) + sumOver (overGroup (indicator k)) free ≤ 1)
     → ((j : ℕ) → j < n → Represents (s .mem) (childNode g j) (f j)) → FreeGroups (s .mem) (s .head) free
     → GotKids g n f s free (downFrom n (λ i x. cleanWords (f i) (childNode g i) x) s)
-kids-clean g zero f ih s free o r fr = ((λ j b. absurd (not-suc-le-zero b)), fr, (λ k z. (refl, refl)), (λ k. (refl, refl, refl)))
+kids-clean g zero f ih s free o r fr = ((λ j b. absurd (not-suc-le-zero b)), fr, (λ k z. (refl, refl)), (λ k. (refl, refl)))
 kids-clean g (suc n) f ih s free o r fr =
     let N : ℕ → ℕ → ℕ = λ k j. nodeCount k (childNode g j) (f j) in
     let s₁ = cleanWords (f n) (childNode g n) s in
@@ -91,7 +91,7 @@ kids-clean g (suc n) f ih s free o r fr =
           (λ ne. b .0 j (omega arith))),
       b .1,
       (λ k z. let x = a .2 k (omega arith) in let y = b .2 k (omega arith) in (x .0 ∙ y .0, x .1 ∙ y .1)),
-      (λ k. let x = a .3 k in let y = b .3 k in (x .0 ∙ y .0, x .1 ∙ y .1, x .2 ∙ y .2)),
+      (λ k. let x = a .3 k in let y = b .3 k in (x .0 ∙ y .0, x .1 ∙ y .1)),
     )
 
 collapse-got : (a g : ℕ) (f : ℕ → Tree) (s : Walk) (free : List ℕ) → ((i : ℕ) → i < 5 → f i ≡ leaf []) → Was (branch g f) a s free
@@ -134,10 +134,10 @@ collapse-got a g f s free em h =
         (λ ne. omega (arith, in-free q i b xs (omega (arith, indicator-other q x ne))))
 
 pub clean-got : (t : Tree) (a : ℕ) (s : Walk) (free : List ℕ) → Was t a s free → Got t a s free (cleanWords t a s)
-clean-got (leaf c) a s free h = (h .1, h .2, (λ k z. (refl, refl)), (λ k. (refl, refl, refl)))
+clean-got (leaf c) a s free h = (h .1, h .2, (λ k z. (refl, refl)), (λ k. (refl, refl)))
 clean-got (branch g f) a s free h =
     byBool (allEmpty f)
-    (λ e. let c = collapse-got a g f s free (children-empty f (zero-is (sumBelow 5 (λ i. busy (f i))) e)) h in rw e (c .0, c .1, c .2, (λ k. (refl, refl, refl))))
+    (λ e. let c = collapse-got a g f s free (children-empty f (zero-is (sumBelow 5 (λ i. busy (f i))) e)) h in rw e (c .0, c .1, c .2, (λ k. (refl, refl))))
     (λ e.
     let K = kids-clean g 5 f (λ i b x y. clean-got (f i) b x y) s free (λ k. omega (arith, h .0 k)) (h .1 .2) (h .2) in
     let w = downFrom 5 (λ i x. cleanWords (f i) (childNode g i) x) s in

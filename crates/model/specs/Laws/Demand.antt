@@ -17,38 +17,41 @@ use lib.Dec.{eqb, ltb}
 use Rattle.geometry.specs.declared.aabb.AABB.{AABB}
 use Rattle.geometry.specs.declared.settings.Settings.{Settings}
 use Rattle.model.specs.Sums.{indicator, indicator-same, indicator-other, indicator-le, sumOver, sumOver-one, byDec}
-use Rattle.model.specs.Lists.{byBool, true-false, count}
-use Rattle.geometry.specs.Rectangles.{intersects, sameRect}
+use Rattle.model.specs.Lists.{count}
+use Rattle.arithmetic.specs.Tests.{byBool, true-false}
+use Rattle.model.specs.declared.Dot.{Dot}
+use Rattle.model.specs.Dots.{isHit}
 use Rattle.geometry.specs.Settings.{rootOf, inRange, D}
-use Rattle.model.specs.Trees.{Dot, Tree, leaf, branch, sumDots, dots, sumDots-dots, size}
+use Rattle.model.specs.Trees.{Placed, Tree, leaf, branch, sumDots, dots, sumDots-dots, size}
 use Rattle.model.specs.Query.{hits}
 use Rattle.model.specs.Cleanup.{isZero, turned}
 use Rattle.model.specs.Remove.{removeSays, removeAt}
-use Rattle.model.specs.Shapes.{Shape, Valid, WellFormed, fresh, inserted, removed, foundBy, cleaned, cleans, listed, opensFor, root, headOf}
+use Rattle.model.specs.Shapes.{Shape, Valid, WellFormed, fresh, inserted, removed, foundBy, cleaned, cleans, listed, opensFor, root, placedIn}
 use Rattle.model.specs.Layout.{World, groupsOf, placesOf, lengthsRight, Holds}
 use Rattle.model.specs.Calls.{Reply, refused, tooMany, answered, Listed, Make, Cleanup, Query}
-use Rattle.model.specs.Book.{Event, insert, remove, cleanup, query, Happens, Run, Pair, accepted, saidYes, without, entered, bookAfter, book, Has, Live, Fine, DistinctFrom, Quiet, cleanups, meeting, Exactly, Promise, Demand3}
-use Rattle.geometry.specs.Laws.Geometry.{leb-true}
+use Rattle.model.specs.Book.{Event, insert, remove, cleanup, query, Happens, Run, accepted, saidYes, without, entered, bookAfter, book, Has, Live, Fine, DistinctFrom, Quiet, cleanups, meeting, Exactly, Promise, Demand3}
+use borrow.Author.Tests.{leb-true}
 use Rattle.model.specs.Laws.Query.{Routed, hits-filter, opened-le, Clean, branches-le}
 use Rattle.model.specs.Laws.Cleanup.{clean-sum, no-clean, clean-no, Tidy, tidy-suc, shallow-tidy, tidy-clean, tidy-zero, clean-tidy}
 use Rattle.model.specs.Laws.Insert.{insert-sum}
-use Rattle.model.specs.Laws.Remove.{eqb-same, found-gone, found-live}
+use borrow.Author.Tests.{eq-eqb}
+use Rattle.model.specs.Laws.Remove.{found-gone, found-live}
 use Rattle.model.specs.Laws.Shapes.{sumOver-map, valid-height, fresh-valid}
 use Rattle.model.specs.Laws.Layout.{right-fits, layout-holds}
-use Rattle.model.specs.Laws.Book.{onDot, onPair, but, without-sum, without-le, but-tree, sum-filter, idIs, dead-count, has-pair, has-meets, meets-has, meeting-le}
+use Rattle.model.specs.Laws.Book.{onDot, idIs, dotIs, but, without-sum, without-le, but-tree, sum-filter, dead-count, has-dot, has-hit, hit-has, meeting-le}
 use Rattle.model.specs.Laws.Calls.{insert-cases, insert-refused, insert-accepted, remove-no, remove-yes, cleanup-done, query-short, query-done, query-holds}
 
 -- ---- the invariant of a run
 
-record Inv (s : Settings) (w : World) (b : List Pair) : Type 0 where
+record Inv (s : Settings) (w : World) (b : List Dot) : Type 0 where
   x : Shape
   holds : Holds w x
   settings : x .settings ≡ s
-  same : (h : ℕ → AABB → ℕ) → sumDots (onDot h) (x .tree) ≡ sumOver (onPair h) b
+  same : (h : Dot → ℕ) → sumDots (onDot h) (x .tree) ≡ sumOver h b
   once : (k : ℕ) → sumOver (idIs k) b ≤ 1
 
 -- another world that holds the same shape
-moved : (s : Settings) (w v : World) (b : List Pair) (I : Inv s w b) → Holds v (I .x) → Inv s v b
+moved : (s : Settings) (w v : World) (b : List Dot) (I : Inv s w b) → Holds v (I .x) → Inv s v b
 moved s w v b I h = record { x = I .x; holds = h; settings = I .settings; same = I .same; once = I .once }
 
 tree-routed : (s : Settings) (n : _) (t : Tree) → WellFormed s n t → Routed n t
@@ -60,14 +63,15 @@ shape-routed x v = tree-routed (x .settings) (root x) (x .tree) (v .wellFormed)
 
 -- ---- a step keeps the invariant
 
-inserted-inv : (s : Settings) (w v : World) (b : List Pair) (id : ℕ) (r : AABB) (I : Inv s w b) → Holds v (inserted id r (I .x)) → sumOver (idIs id) b ≡ 0
-    → Inv s v (record { id = id; rect = r } ∷ b)
+inserted-inv : (s : Settings) (w v : World) (b : List Dot) (dot : Dot) (I : Inv s w b) → Holds v (inserted dot (I .x)) → sumOver (idIs (dot .id)) b ≡ 0
+    → Inv s v (dot ∷ b)
 unfolding inserted
-inserted-inv s w v b id r I hv z =
+inserted-inv s w v b dot I hv z =
     let x = I .x in
-    let d : Dot = record { place = headOf (x .freePlaces); id = id; rect = r } in
+    let d = placedIn dot x in
+    let id = dot .id in
     record {
-      x = inserted id r x;
+      x = inserted dot x;
       holds = hv;
       settings = I .settings;
       same = λ h. omega (arith, I .same h, insert-sum (x .settings) (onDot h) (D (x .settings)) (root x) d (x .tree) (x .freeGroups) (valid-height x (I .holds .valid)));
@@ -77,7 +81,7 @@ inserted-inv s w v b id r I hv z =
           (λ ne. omega (arith, I .once k, indicator-other k id ne));
     }
 
-removed-inv : (s : Settings) (w v : World) (b : List Pair) (id : ℕ) (r : AABB) (I : Inv s w b) → Holds v (removed id r (I .x)) → foundBy id r (I .x) ≡ true
+removed-inv : (s : Settings) (w v : World) (b : List Dot) (id : ℕ) (r : AABB) (I : Inv s w b) → Holds v (removed id r (I .x)) → foundBy id r (I .x) ≡ true
     → Inv s v (without id b)
 unfolding removed foundBy
 removed-inv s w v b id r I hv e =
@@ -85,19 +89,19 @@ removed-inv s w v b id r I hv e =
     let gone = found-gone id r (root x) (x .tree) e in
     let d = gone .0 in
     let t = removeAt id r (root x) (x .tree) in
-    let none-left : sumDots (λ d. indicator id (d .id)) t ≡ 0 =
-    omega (arith, gone .2 (λ d. indicator id (d .id)), I .same (λ i q. indicator id i), I .once id, ap (λ (y : ℕ). indicator id y) (gone .1), indicator-same id) in
+    let none-left : sumDots (onDot (idIs id)) t ≡ 0 =
+    omega (arith, gone .2 (onDot (idIs id)), I .same (idIs id), I .once id, ap (λ (y : ℕ). indicator id y) (gone .1), indicator-same id) in
     record {
       x = removed id r x;
       holds = hv;
       settings = I .settings;
       same = λ h.
-          let at-d : onDot (but id h) d ≡ 0 = rw (ap (λ (y : ℕ). eqb id y) (gone .1) ∙ eqb-same id) refl in
+          let at-d : onDot (but id h) d ≡ 0 = rw (eq-eqb id (d .dot .id) (sym (gone .1))) refl in
           omega (arith, without-sum h id b, I .same (but id h), gone .2 (onDot (but id h)), at-d, but-tree h id t none-left);
       once = λ k. omega (arith, I .once k, without-le (idIs k) id b);
     }
 
-cleaned-inv : (s : Settings) (w v : World) (b : List Pair) (I : Inv s w b) → Holds v (cleaned (I .x)) → Inv s v b
+cleaned-inv : (s : Settings) (w v : World) (b : List Dot) (I : Inv s w b) → Holds v (cleaned (I .x)) → Inv s v b
 unfolding cleaned
 cleaned-inv s w v b I hv =
     record {
@@ -108,13 +112,13 @@ cleaned-inv s w v b I hv =
       once = I .once;
     }
 
-step-inv : (s : Settings) (w : World) (b : List Pair) (e : Event) (v : World) → Inv s w b → Happens w e v → Fine b e → Inv s v (entered b e)
-step-inv s w b (insert id r reply) v I call fine =
+step-inv : (s : Settings) (w : World) (b : List Dot) (e : Event) (v : World) → Inv s w b → Happens w e v → Fine b e → Inv s v (entered b e)
+step-inv s w b (insert dot reply) v I call fine =
     let x = I .x in
     ⊎-elim
-    (λ k. let a = insert-refused w id r v reply call x (I .holds) (k .0) (k .1) in rw (a .1) (moved s w v b I (a .0)))
-    (λ g. let a = insert-accepted w id r v reply call x (I .holds) g in rw (a .1) (inserted-inv s w v b id r I (a .0) (dead-count id b (fine (a .1)))))
-    (insert-cases id r x (I .holds .valid))
+    (λ k. let a = insert-refused w dot v reply call x (I .holds) (k .0) (k .1) in rw (a .1) (moved s w v b I (a .0)))
+    (λ g. let a = insert-accepted w dot v reply call x (I .holds) g in rw (a .1) (inserted-inv s w v b dot I (a .0) (dead-count (dot .id) b (fine (a .1)))))
+    (insert-cases dot x (I .holds .valid))
 step-inv s w b (remove id r reply) v I call fine =
     let x = I .x in
     byBool (foundBy id r x)
@@ -123,7 +127,7 @@ step-inv s w b (remove id r reply) v I call fine =
 step-inv s w b (cleanup reply) v I call fine = cleaned-inv s w v b I (cleanup-done w v reply call (I .x) (I .holds) .0)
 step-inv s w b (query q row row′ reply) v I call fine = moved s w v b I (query-holds w q row v row′ reply call (I .x) (I .holds))
 
-run-inv : (s : Settings) (w : World) (b : List Pair) (es : List Event) (v : World) → Inv s w b → Run w es v → DistinctFrom b es → Inv s v (bookAfter b es)
+run-inv : (s : Settings) (w : World) (b : List Dot) (es : List Event) (v : World) → Inv s w b → Run w es v → DistinctFrom b es → Inv s v (bookAfter b es)
 run-inv s w b [] v I run d = subst (λ (u : World). Inv s u b) run I
 run-inv s w b (e ∷ es) v I run d = run-inv s (run .0) (entered b e) es v (step-inv s w b e (run .0) I (run .1) (d .0)) (run .2) (d .1)
 
@@ -134,12 +138,12 @@ module _ (P : ℕ → Shape → Type 0) (down : (n : ℕ) (x : Shape) → P (suc
   quiet-run : (n : ℕ) (w : World) (es : List Event) (v : World) (x : Shape) → Run w es v → Quiet es → Holds w x → P n x → n ≤ cleanups es
       → (y : Shape) × Holds v y × P 0 y
   quiet-run n w [] v x run q h p l = (x, subst (λ (u : World). Holds u x) run h, subst (λ (k : ℕ). P k x) (omega arith) p)
-  quiet-run n w (insert id r reply ∷ es) v x run q h p l =
+  quiet-run n w (insert dot reply ∷ es) v x run q h p l =
       let same : Holds (run .0) x =
       ⊎-elim
-      (λ k. insert-refused w id r (run .0) reply (run .1) x h (k .0) (k .1) .0)
-      (λ g. true-false (sym (insert-accepted w id r (run .0) reply (run .1) x h g .1) ∙ q .0))
-      (insert-cases id r x (h .valid)) in
+      (λ k. insert-refused w dot (run .0) reply (run .1) x h (k .0) (k .1) .0)
+      (λ g. true-false (sym (insert-accepted w dot (run .0) reply (run .1) x h g .1) ∙ q .0))
+      (insert-cases dot x (h .valid)) in
       quiet-run n (run .0) es v x (run .2) (q .1) same p l
   quiet-run n w (remove id r reply ∷ es) v x run q h p l =
       let same : Holds (run .0) x =
@@ -183,28 +187,28 @@ opensOf (tooMany n) = 0
 opensOf (answered a) = a .opened
 
 -- every weight on ids sums to the same over the listed ids and over the live ones that intersect
-listed-sum : (s : Settings) (w : World) (b : List Pair) (I : Inv s w b) (q : AABB) (g : ℕ → ℕ) → sumOver g (listed q (I .x)) ≡ sumOver (λ p. g (p .id)) (meeting q b)
+listed-sum : (s : Settings) (w : World) (b : List Dot) (I : Inv s w b) (q : AABB) (g : ℕ → ℕ) → sumOver g (listed q (I .x)) ≡ sumOver (λ d. g (d .id)) (meeting q b)
 unfolding listed
 listed-sum s w b I q g =
     let x = I .x in
-    let hit : Dot → Bool = λ d. intersects q (d .rect) in
-    sumOver-map g (λ d. d .id) (hits q (root x) (x .tree))
-    ∙ ap (sumOver (λ d. g (d .id))) (hits-filter q (root x) (x .tree) (shape-routed x (I .holds .valid)))
-    ∙ sum-filter (λ d. g (d .id)) hit (dots (x .tree))
-    ∙ sumDots-dots (λ d. cond (hit d) (g (d .id)) 0) (x .tree)
-    ∙ I .same (λ i r. cond (intersects q r) (g i) 0)
-    ∙ sym (sum-filter (λ p. g (p .id)) (λ p. intersects q (p .rect)) b)
+    let hit : Placed → Bool = λ d. isHit q (d .dot) in
+    sumOver-map g (λ d. d .dot .id) (hits q (root x) (x .tree))
+    ∙ ap (sumOver (λ d. g (d .dot .id))) (hits-filter q (root x) (x .tree) (shape-routed x (I .holds .valid)))
+    ∙ sum-filter (λ d. g (d .dot .id)) hit (dots (x .tree))
+    ∙ sumDots-dots (λ d. cond (hit d) (g (d .dot .id)) 0) (x .tree)
+    ∙ I .same (λ d. cond (isHit q d) (g (d .id)) 0)
+    ∙ sym (sum-filter (λ d. g (d .id)) (isHit q) b)
 
-inv-exactly : (s : Settings) (w : World) (b : List Pair) (I : Inv s w b) (q : AABB) → Exactly q b (listed q (I .x))
+inv-exactly : (s : Settings) (w : World) (b : List Dot) (I : Inv s w b) (q : AABB) → Exactly q b (listed q (I .x))
 inv-exactly s w b I q =
     let sum : (id : ℕ) → count id (listed q (I .x)) ≡ sumOver (idIs id) (meeting q b) = λ id. listed-sum s w b I q (indicator id) in
     record {
       once = λ id. omega (arith, sum id, meeting-le q id b, I .once id);
-      onlyThose = λ id c. meets-has q id b (omega (arith, sum id));
-      allThose = λ id r h i. omega (arith, sum id, has-meets q id r b h i);
+      onlyThose = λ id c. hit-has q id b (omega (arith, sum id));
+      allThose = λ d h i. omega (arith, sum (d .id), has-hit q d b h i);
     }
 
-inv-lists : (s : Settings) (w : World) (b : List Pair) → Inv s w b → (q : AABB) (row row′ : List ℕ) (w′ : World) (reply : Reply Listed) → Query w q row w′ row′ reply
+inv-lists : (s : Settings) (w : World) (b : List Dot) → Inv s w b → (q : AABB) (row row′ : List ℕ) (w′ : World) (reply : Reply Listed) → Query w q row w′ row′ reply
     → length (meeting q b) ≤ length row → (a : Listed) × (reply ≡ answered a) × Exactly q b (take (a .hits) row′)
 inv-lists s w b I q row row′ w′ reply call long =
     let x = I .x in
@@ -246,12 +250,12 @@ few s n q x v k t =
       mul-assoc 5 (D s) n,
     )
 
-inv-opens : (s : Settings) (w : World) (b : List Pair) → Inv s w b → (es fs : List Event) (v w′ : World) → Run w (es ++ cleanup (answered false) ∷ fs) v → Quiet es → Quiet fs
+inv-opens : (s : Settings) (w : World) (b : List Dot) → Inv s w b → (es fs : List Event) (v w′ : World) → Run w (es ++ cleanup (answered false) ∷ fs) v → Quiet es → Quiet fs
     → (q : AABB) (row row′ : List ℕ) (a : Listed) → Query v q row w′ row′ (answered a) → a .opened ≤ 1 + 5 * D s * length b
 unfolding says opensOf
 inv-opens s w b I es fs v w′ run qe qf q row row′ a call =
     let n = length b in
-    let start : Kept s n (I .x) = record { settings = I .settings; sized = I .same (λ i r. 1) ∙ sumOver-one b } in
+    let start : Kept s n (I .x) = record { settings = I .settings; sized = I .same (λ d. 1) ∙ sumOver-one b } in
     let r = run-append w es (cleanup (answered false) ∷ fs) v run in
     let Q : ℕ → Shape → Type 0 = λ k x. Kept s n x in
     let before = quiet-run Q (λ k x p. kept-cleaned s n x p) (λ x p. kept-cleaned s n x p) 0 w es (r .0) (I .x) (r .1) qe (I .holds) start (omega arith) in
@@ -271,7 +275,7 @@ inv-opens s w b I es fs v w′ run qe qf q row row′ a call =
     never : {X : Type 0} {a : Listed} {n : ℕ} → answered a ≡ tooMany n → X
     never p = true-false (ap accepted p)
 
-inv-cleanups : (s : Settings) (w : World) (b : List Pair) → Inv s w b → (es : List Event) (v w′ : World) (reply : Reply Bool) → Run w es v → Quiet es → D s ≤ cleanups es
+inv-cleanups : (s : Settings) (w : World) (b : List Dot) → Inv s w b → (es : List Event) (v w′ : World) (reply : Reply Bool) → Run w es v → Quiet es → D s ≤ cleanups es
     → Cleanup v w′ reply → reply ≡ answered false
 inv-cleanups s w b I es v w′ reply run quiet enough call =
     let x = I .x in
@@ -280,27 +284,27 @@ inv-cleanups s w b I es v w′ reply run quiet enough call =
     let y = after .0 in
     cleanup-done v w′ reply call y (after .1) .1 ∙ ap answered (no-cleans y (tidy-zero (y .tree) (after .2)))
 
-has-found : (s : Settings) (w : World) (b : List Pair) (I : Inv s w b) (id : ℕ) (r : AABB) → Has id r b → foundBy id r (I .x) ≡ true
+has-found : (s : Settings) (w : World) (b : List Dot) (I : Inv s w b) (d : Dot) → Has d b → foundBy (d .id) (d .rect) (I .x) ≡ true
 unfolding foundBy
-has-found s w b I id r h =
+has-found s w b I d h =
     let x = I .x in
-    found-live id r (root x) (x .tree) (shape-routed x (I .holds .valid)) (omega (arith, has-pair id r b h, I .same (λ i y. cond (sameRect r y) (indicator id i) 0)))
+    found-live (d .id) (d .rect) (root x) (x .tree) (shape-routed x (I .holds .valid)) (omega (arith, has-dot d b h, I .same (dotIs (d .id) (d .rect))))
 
-dead-not-found : (s : Settings) (w : World) (b : List Pair) (I : Inv s w b) (id : ℕ) (r : AABB) → ¬ Live id b → foundBy id r (I .x) ≡ false
+dead-not-found : (s : Settings) (w : World) (b : List Dot) (I : Inv s w b) (id : ℕ) (r : AABB) → ¬ Live id b → foundBy id r (I .x) ≡ false
 unfolding foundBy
 dead-not-found s w b I id r dead =
     let x = I .x in
     byBool (removeSays id r (root x) (x .tree))
     (λ e.
     let gone = found-gone id r (root x) (x .tree) e in
-    absurd (omega (arith, dead-count id b dead, gone .2 (λ d. indicator id (d .id)), I .same (λ i q. indicator id i), ap (λ (y : ℕ). indicator id y) (gone .1), indicator-same id)))
+    absurd (omega (arith, dead-count id b dead, gone .2 (onDot (idIs id)), I .same (idIs id), ap (λ (y : ℕ). indicator id y) (gone .1), indicator-same id)))
     (λ e. e)
 
-inv-promise : (s : Settings) (w : World) (b : List Pair) → Inv s w b → Promise s w b
+inv-promise : (s : Settings) (w : World) (b : List Dot) → Inv s w b → Promise s w b
 inv-promise s w b I =
     record {
       lists = inv-lists s w b I;
-      removesLive = λ id r w′ reply call h. remove-yes w id r w′ reply call (I .x) (I .holds) (has-found s w b I id r h) .1;
+      removesLive = λ d w′ reply call h. remove-yes w (d .id) (d .rect) w′ reply call (I .x) (I .holds) (has-found s w b I d h) .1;
       keepsOthers = λ id r w′ reply call z. remove-no w id r w′ reply call (I .x) (I .holds) (dead-not-found s w b I id r z) .1;
       cleanupsEnd = inv-cleanups s w b I;
       opensFew = inv-opens s w b I;

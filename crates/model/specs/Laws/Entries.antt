@@ -13,11 +13,12 @@ use lib.Dec.{eqb}
 use lib.ListN.{length, getD, List·getD-append}
 use lib.Seq.{getD-append-add}
 use Rattle.model.specs.Sums.{indicator, indicator-same, indicator-other, sumOver, sumOver-append, sumBelow, sumBelow-ext, sumBelow-add, sumBelow-zero, sumBelow-only, byDec}
-use Rattle.model.specs.Lists.{byBool, true-false, joinBelow, length-joinBelow, sumOver-joinBelow, All, count}
-use Rattle.model.specs.Trees.{Dot, Tree, leaf, branch, childNode, groupCount, placeCount, atPlace}
+use Rattle.model.specs.Lists.{joinBelow, length-joinBelow, sumOver-joinBelow, All, count}
+use Rattle.arithmetic.specs.Tests.{byBool, true-false}
+use Rattle.model.specs.Trees.{Placed, Tree, leaf, branch, childNode, groupCount, placeCount, atPlace}
 use Rattle.model.specs.Shapes.{Shape, Valid, below}
 use Rattle.model.specs.Layout.{none, firstNode, NodeEntry, PlaceEntry, treeNodes, freeGroupNodes, chainPlaces, treePlaces, blank, nodeEntries, placeEntries}
-use Rattle.model.specs.Laws.Remove.{eqb-true, eqb-same}
+use borrow.Author.Tests.{eqb-true, eq-eqb}
 use Rattle.model.specs.Laws.Shapes.{below-yes, below-no, below-le, sumOver-map}
 
 -- ---- a word of a row that is joined from short rows of m words each
@@ -54,7 +55,7 @@ module _ {E A : Type 0} (key : E → ℕ) (value : E → A) (find : List E → �
       → All (λ e. (find es (key e) ≡ value e) × (1 ≤ Counted (key e) es)) fs
   found es once [] part same = tt
   found es once (e ∷ fs) part same =
-      let here : find (e ∷ fs) (key e) ≡ value e = find-cons e fs (key e) ∙ rw (eqb-same (key e)) refl in (
+      let here : find (e ∷ fs) (key e) ≡ value e = find-cons e fs (key e) ∙ rw (eq-eqb (key e) (key e) refl) refl in (
         (same (key e) (omega (arith, indicator-same (key e))) ∙ here, omega (arith, part (key e), indicator-same (key e))),
         found es once fs (λ k. omega (arith, part k))
             (λ k c.
@@ -72,7 +73,7 @@ module _ {E A : Type 0} (key : E → ℕ) (value : E → A) (find : List E → �
   finds at (e ∷ es) a k c =
       byBool (eqb k (key e))
       (λ t. find-cons e es k ∙ rw t (sym (a .0) ∙ ap at (sym (eqb-true k (key e) t))))
-      (λ t. find-cons e es k ∙ rw t (finds at es (a .1) k (omega (arith, indicator-other k (key e) (λ x. true-false (sym (ap (λ (y : ℕ). eqb k y) (sym x) ∙ eqb-same k) ∙ t))))))
+      (λ t. find-cons e es k ∙ rw t (finds at es (a .1) k (omega (arith, indicator-other k (key e) (λ x. true-false (sym (ap (λ (y : ℕ). eqb k y) (sym x) ∙ eq-eqb k k refl) ∙ t))))))
 
 -- ---- each number stands once
 
@@ -162,7 +163,7 @@ by-node P z c k =
 pub nodes-once : (x : Shape) → Valid x → (k : ℕ) → sumOver (nodeIs k) (nodeEntries x) ≤ 1
 nodes-once x v = by-node (λ k. sumOver (nodeIs k) (nodeEntries x) ≤ 1) (omega (arith, nodes-zero x)) (λ q r b. omega (arith, nodes-at x v q r b, below-le q (x .groups)))
 
-pub chain-places : (k : ℕ) (ds : List Dot) → sumOver (placeIs k) (chainPlaces ds) ≡ sumOver (atPlace k) ds
+pub chain-places : (k : ℕ) (ds : List Placed) → sumOver (placeIs k) (chainPlaces ds) ≡ sumOver (atPlace k) ds
 chain-places k [] = refl
 chain-places k (d ∷ ds) = omega (arith, chain-places k ds)
 

@@ -7,7 +7,7 @@ use mathlib.Core.List.{List, [], _∷_, _++_}
 use Prim.Native.Nat.{ℕ, _+_, _-_, _≤_}
 use native.Mathlib.Omega.{arith}
 use Rattle.model.specs.Sums.{indicator, indicator-same, sumOver, sumBelow, sumBelow-term}
-use Rattle.model.specs.Trees.{Dot, Tree, leaf, branch, childNode, atPlace, placeCount}
+use Rattle.model.specs.Trees.{Placed, Tree, leaf, branch, childNode, atPlace, placeCount}
 use Rattle.model.specs.Layout.{none}
 use Rattle.model.specs.Memory.{Mem, Chained, Represents}
 
@@ -21,64 +21,62 @@ nodeCount k a t = sumNodes (indicator k) a t
 -- ---- agreement at a place, at a node
 
 abbrev pub SamePlace : Mem → Mem → ℕ → Type 0
-SamePlace m w k = (m .id k ≡ w .id k) × (m .next k ≡ w .next k) × (m .rect k ≡ w .rect k)
+SamePlace m w k = (m .dot k ≡ w .dot k) × (m .next k ≡ w .next k)
 
 abbrev pub SameNode : Mem → Mem → ℕ → Type 0
 SameNode m w k = (m .first k ≡ w .first k) × (m .count k ≡ w .count k)
 
 -- ---- the frame of a chain
 
-pub chain-frame : (m w : Mem) (h : ℕ) (ds : List Dot) (e : ℕ) → ((k : ℕ) → 1 ≤ sumOver (atPlace k) ds → SamePlace m w k) → Chained m h ds e → Chained w h ds e
+pub chain-frame : (m w : Mem) (h : ℕ) (ds : List Placed) (e : ℕ) → ((k : ℕ) → 1 ≤ sumOver (atPlace k) ds → SamePlace m w k) → Chained m h ds e → Chained w h ds e
 chain-frame m w h [] e s r = r
 chain-frame m w h (d ∷ ds) e s r =
     let p = d .place in
     let q = s p (omega (arith, indicator-same p)) in (
       r .0,
       sym (q .0) ∙ r .1,
-      sym (q .2) ∙ r .2,
-      chain-frame m w (w .next p) ds e (λ k c. s k (omega arith)) (subst (λ (n : ℕ). Chained m n ds e) (q .1) (r .3)),
+      chain-frame m w (w .next p) ds e (λ k c. s k (omega arith)) (subst (λ (n : ℕ). Chained m n ds e) (q .1) (r .2)),
     )
 
 -- cut and join
-pub chain-join : (m : Mem) (h : ℕ) (xs ys : List Dot) (e f : ℕ) → Chained m h xs e → Chained m e ys f → Chained m h (xs ++ ys) f
+pub chain-join : (m : Mem) (h : ℕ) (xs ys : List Placed) (e f : ℕ) → Chained m h xs e → Chained m e ys f → Chained m h (xs ++ ys) f
 chain-join m h [] ys e f a b = subst (λ (n : ℕ). Chained m n ys f) (sym a) b
-chain-join m h (d ∷ xs) ys e f a b = (a .0, a .1, a .2, chain-join m (m .next (d .place)) xs ys e f (a .3) b)
+chain-join m h (d ∷ xs) ys e f a b = (a .0, a .1, chain-join m (m .next (d .place)) xs ys e f (a .2) b)
 
-pub chain-cut : (m : Mem) (h : ℕ) (xs ys : List Dot) (f : ℕ) → Chained m h (xs ++ ys) f → (e : ℕ) × Chained m h xs e × Chained m e ys f
+pub chain-cut : (m : Mem) (h : ℕ) (xs ys : List Placed) (f : ℕ) → Chained m h (xs ++ ys) f → (e : ℕ) × Chained m h xs e × Chained m e ys f
 chain-cut m h [] ys f s = (h, refl, s)
-chain-cut m h (d ∷ xs) ys f s = let r = chain-cut m (m .next (d .place)) xs ys f (s .3) in (r .0, (s .0, s .1, s .2, r .1), r .2)
+chain-cut m h (d ∷ xs) ys f s = let r = chain-cut m (m .next (d .place)) xs ys f (s .2) in (r .0, (s .0, s .1, r .1), r .2)
 
 -- a segment determines where it ends
-pub chain-end : (m : Mem) (h : ℕ) (xs : List Dot) (e f : ℕ) → Chained m h xs e → Chained m h xs f → e ≡ f
+pub chain-end : (m : Mem) (h : ℕ) (xs : List Placed) (e f : ℕ) → Chained m h xs e → Chained m h xs f → e ≡ f
 chain-end m h [] e f a b = sym a ∙ b
-chain-end m h (d ∷ xs) e f a b = chain-end m (m .next (d .place)) xs e f (a .3) (b .3)
+chain-end m h (d ∷ xs) e f a b = chain-end m (m .next (d .place)) xs e f (a .2) (b .2)
 
 -- ---- the three changes of a chain
 
--- push: the place of d is written to be (id, box, next = the old head), nothing else of the chain changes
-pub chain-push : (m w : Mem) (h : ℕ) (d : Dot) (ds : List Dot) (e : ℕ) → ((k : ℕ) → 1 ≤ sumOver (atPlace k) ds → SamePlace m w k)
-    → w .id (d .place) ≡ d .id → w .rect (d .place) ≡ d .rect → w .next (d .place) ≡ h → Chained m h ds e → Chained w (d .place) (d ∷ ds) e
-chain-push m w h d ds e s i r x g = (refl, i, r, subst (λ (n : ℕ). Chained w n ds e) (sym x) (chain-frame m w h ds e s g))
+-- push: the place of d holds it, with the old head as its next; nothing else of the chain changes
+pub chain-push : (m w : Mem) (h : ℕ) (d : Placed) (ds : List Placed) (e : ℕ) → ((k : ℕ) → 1 ≤ sumOver (atPlace k) ds → SamePlace m w k)
+    → w .dot (d .place) ≡ d .dot → w .next (d .place) ≡ h → Chained m h ds e → Chained w (d .place) (d ∷ ds) e
+chain-push m w h d ds e s i x g = (refl, i, subst (λ (n : ℕ). Chained w n ds e) (sym x) (chain-frame m w h ds e s g))
 
 -- the head goes: the new head is the old head's next
-pub chain-pop : (m w : Mem) (h : ℕ) (d : Dot) (ds : List Dot) (e : ℕ) → ((k : ℕ) → 1 ≤ sumOver (atPlace k) ds → SamePlace m w k)
+pub chain-pop : (m w : Mem) (h : ℕ) (d : Placed) (ds : List Placed) (e : ℕ) → ((k : ℕ) → 1 ≤ sumOver (atPlace k) ds → SamePlace m w k)
     → Chained m h (d ∷ ds) e → Chained w (m .next (d .place)) ds e
-chain-pop m w h d ds e s g = chain-frame m w (m .next (d .place)) ds e s (g .3)
+chain-pop m w h d ds e s g = chain-frame m w (m .next (d .place)) ds e s (g .2)
 
 -- d goes from behind q: q's next becomes d's next
-pub chain-drop : (m w : Mem) (h : ℕ) (xs : List Dot) (q d : Dot) (ys : List Dot) (e : ℕ)
+pub chain-drop : (m w : Mem) (h : ℕ) (xs : List Placed) (q d : Placed) (ys : List Placed) (e : ℕ)
     → ((k : ℕ) → 1 ≤ sumOver (atPlace k) xs + sumOver (atPlace k) ys → SamePlace m w k)
-    → w .id (q .place) ≡ m .id (q .place) → w .rect (q .place) ≡ m .rect (q .place) → w .next (q .place) ≡ m .next (d .place)
+    → w .dot (q .place) ≡ m .dot (q .place) → w .next (q .place) ≡ m .next (d .place)
     → Chained m h (xs ++ q ∷ d ∷ ys) e → Chained w h (xs ++ q ∷ ys) e
-chain-drop m w h xs q d ys e s i r x g =
+chain-drop m w h xs q d ys e s i x g =
     let c = chain-cut m h xs (q ∷ d ∷ ys) e g in
     let v = c .2 in
     chain-join w h xs (q ∷ ys) (c .0) e
     (chain-frame m w h xs (c .0) (λ k b. s k (omega arith)) (c .1)) (
       v .0,
       i ∙ v .1,
-      r ∙ v .2,
-      subst (λ (n : ℕ). Chained w n ys e) (sym x) (chain-frame m w (m .next (d .place)) ys e (λ k b. s k (omega arith)) (v .3 .3)),
+      subst (λ (n : ℕ). Chained w n ys e) (sym x) (chain-frame m w (m .next (d .place)) ys e (λ k b. s k (omega arith)) (v .2 .2)),
     )
 
 -- ---- the frame of a tree

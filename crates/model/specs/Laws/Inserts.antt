@@ -11,15 +11,16 @@ use native.Mathlib.Omega.{arith}
 use lib.ListN.{length}
 use Rattle.geometry.specs.declared.node_data.NodeData.{NodeData}
 use Rattle.model.specs.Sums.{changed, changed-same, changed-other, byDec}
-use Rattle.model.specs.Lists.{byBool}
-use Rattle.model.specs.Trees.{Dot, Tree, leaf, branch, childNode, Shallow}
+use Rattle.arithmetic.specs.Tests.{byBool}
+use Rattle.model.specs.Trees.{Placed, Tree, leaf, branch, childNode, Shallow}
 use Rattle.model.specs.Memory.{Mem}
 use Rattle.model.specs.Laws.Paths.{Children, sub, nodeAt, put}
 use Rattle.model.specs.Laws.Stores.{pushWords, push-holds, Stored}
 use Rattle.geometry.specs.declared.settings.Settings.{Settings}
 use Rattle.geometry.specs.Cells.{routeCell, mayDivide, childData}
-use Rattle.model.specs.Insert.{routeDot, dealt, Grown, mustSplit, splitsNeeded, insertAt}
+use Rattle.model.specs.Insert.{routeDot, dealt, Grown, mustSplit, insertAt}
 use Rattle.geometry.specs.Laws.Geometry.{route-child}
+use Rattle.model.specs.Laws.Insert.{splitCount}
 use Rattle.model.specs.Laws.Splits.{splitTree, splitWords, split-holds}
 
 -- ---- a path one step longer; a subtree that was put
@@ -88,9 +89,13 @@ module _ (g : ℕ) (f : ℕ → Tree) (i : ℕ) where
 
 -- ---- the insert's loop: what is left to do at the end of the path, and one turn
 
-module _ (S : Settings) (d : Dot) where
-  -- the tree and the free groups that the insert ends with
-  abbrev pub Left : ℕ → NodeData → Tree → List ℕ → List ℕ → Grown
+-- the tree and the free groups that the insert ends with
+pub record Ended : Type 0 where
+  pub tree : Tree
+  pub free : List ℕ
+
+module _ (S : Settings) (d : Placed) where
+  abbrev pub Left : ℕ → NodeData → Tree → List ℕ → List ℕ → Ended
   Left n c t p free = let r = insertAt S n c d (sub t p) free in record { tree = put t p (r .tree); free = r .free }
 
   pub turn-down : (n : ℕ) (c : NodeData) (t : Tree) (p free : List ℕ) (g : ℕ) (f : ℕ → Tree) → Reach t p → sub t p ≡ branch g f
@@ -101,24 +106,25 @@ module _ (S : Settings) (d : Dot) where
       ∙ sym (ap (λ (x : Tree). let y = insertAt S n (childData c i) d x free in record { tree = put t (p ++ i ∷ []) (y .tree); free = y .free }) (sub-snoc g f i t p r e)
       ∙ ap (λ (x : Tree). record { tree = x; free = insertAt S n (childData c i) d (f i) free .free }) (put-snoc g f i t p (insertAt S n (childData c i) d (f i) free .tree) r e))
 
-  pub turn-split : (n : ℕ) (c : NodeData) (t : Tree) (p : List ℕ) (g : ℕ) (free : List ℕ) (ds : List Dot) → Reach t p → sub t p ≡ leaf ds → mustSplit S c ds ≡ true
+  pub turn-split : (n : ℕ) (c : NodeData) (t : Tree) (p : List ℕ) (g : ℕ) (free : List ℕ) (ds : List Placed) → Reach t p → sub t p ≡ leaf ds → mustSplit S c ds ≡ true
       → Left (suc n) c t p (g ∷ free) ≡ Left (suc n) c (put t p (splitTree c g ds)) p free
   turn-split n c t p g free ds r e b =
       let u = splitTree c g ds in
       let y = insertAt S (suc n) c d u free in
-      let z : insertAt S (suc n) c d (leaf ds) (g ∷ free) ≡ y = rw b refl in
+      let ended : Grown → Ended = λ x. record { tree = put t p (x .tree); free = x .free } in
+      let z : ended (insertAt S (suc n) c d (leaf ds) (g ∷ free)) ≡ ended y = rw b refl in
       ap (λ (x : Tree). let y = insertAt S (suc n) c d x (g ∷ free) in record { tree = put t p (y .tree); free = y .free }) e
-      ∙ ap (λ (x : Grown). record { tree = put t p (x .tree); free = x .free }) z
+      ∙ z
       ∙ sym (ap (λ (x : Tree). let y = insertAt S (suc n) c d x free in record { tree = put (put t p u) p (y .tree); free = y .free }) (sub-put u t p r)
       ∙ ap (λ (x : Tree). record { tree = x; free = y .free }) (put-put t p u (y .tree) r))
 
-module _ (S : Settings) (G N : ℕ) (d : Dot) (spare : List ℕ) where
+module _ (S : Settings) (G N : ℕ) (d : Placed) (spare : List ℕ) where
   -- some memory holds the tree and the free groups that are to come
-  abbrev Done : Grown → Type 0
+  abbrev Done : Ended → Type 0
   Done r = (w : Mem) × (groupHead : ℕ) × (placeHead : ℕ) × Stored G N w groupHead placeHead (r .tree) (r .free) spare
 
-  push : (n : ℕ) (c : NodeData) (m : Mem) (groupHead placeHead : ℕ) (t : Tree) (p free : List ℕ) (ds : List Dot) → Reach t p → sub t p ≡ leaf ds
-      → insertAt S n c d (leaf ds) free ≡ record { tree = leaf (d ∷ ds); free = free } → Stored G N m groupHead placeHead t free (d .place ∷ spare) → Done (Left S d n c t p free)
+  push : (n : ℕ) (c : NodeData) (m : Mem) (groupHead placeHead : ℕ) (t : Tree) (p free : List ℕ) (ds : List Placed) → Reach t p → sub t p ≡ leaf ds
+      → insertAt S n c d (leaf ds) free ≡ record { tree = leaf (d ∷ ds); free = free; splits = 0 } → Stored G N m groupHead placeHead t free (d .place ∷ spare) → Done (Left S d n c t p free)
   push n c m groupHead placeHead t p free ds r e x H =
       let y : Left S d n c t p free ≡ record { tree = put t p (leaf (d ∷ ds)); free = free } =
       ap (λ (u : Tree). let z = insertAt S n c d u free in record { tree = put t p (z .tree); free = z .free }) e
@@ -126,7 +132,7 @@ module _ (S : Settings) (G N : ℕ) (d : Dot) (spare : List ℕ) where
       subst Done (sym y) (pushWords m (nodeAt 0 t p) d, groupHead, m .next (d .place), push-holds G N m groupHead placeHead t free spare p ds d (reach-children t p r) e H)
 
   pub insert-holds : (n : ℕ) (c : NodeData) (m : Mem) (groupHead placeHead : ℕ) (t : Tree) (p free : List ℕ) (u : Tree) → sub t p ≡ u → Reach t p → Shallow n u
-      → splitsNeeded S n c (d .rect) u ≤ length free → Stored G N m groupHead placeHead t free (d .place ∷ spare) → Done (Left S d n c t p free)
+      → splitCount S n c (d .dot .rect) u ≤ length free → Stored G N m groupHead placeHead t free (d .place ∷ spare) → Done (Left S d n c t p free)
   insert-holds zero c m groupHead placeHead t p free (leaf ds) e r s k H = push zero c m groupHead placeHead t p free ds r e refl H
   insert-holds zero c m groupHead placeHead t p free (branch g f) e r s k H = absurd s
   insert-holds (suc n) c m groupHead placeHead t p [] (leaf ds) e r s k H = push (suc n) c m groupHead placeHead t p [] ds r e refl H
@@ -137,15 +143,15 @@ module _ (S : Settings) (G N : ℕ) (d : Dot) (spare : List ℕ) where
       let e₁ : sub t₁ p ≡ splitTree c g ds = sub-put (splitTree c g ds) t p r in
       byBool (mustSplit S c ds)
       (λ b.
-      let k₁ : splitsNeeded S n (childData c i) (d .rect) (dealt c ds i) ≤ length free = omega (arith, rw b at k) in
+      let k₁ : splitCount S n (childData c i) (d .dot .rect) (dealt c ds i) ≤ length free = omega (arith, rw b at k) in
       subst Done (sym (turn-split S d n c t p g free ds r e b ∙ turn-down S d n c t₁ p free g (dealt c ds) r₁ e₁))
       (insert-holds n (childData c i) (splitWords c m (nodeAt 0 t p) g ds) (m .first (childNode g 0)) placeHead t₁ (p ++ i ∷ []) free (dealt c ds i)
       (sub-snoc g (dealt c ds) i t₁ p r₁ e₁)
-      (reach-snoc g (dealt c ds) i t₁ p (route-child c (d .rect)) r₁ e₁) tt k₁
+      (reach-snoc g (dealt c ds) i t₁ p (route-child c (d .dot .rect)) r₁ e₁) tt k₁
       (split-holds c G N m groupHead placeHead t g free (d .place ∷ spare) p ds (reach-children t p r) e H)))
       (λ b. push (suc n) c m groupHead placeHead t p (g ∷ free) ds r e (rw b refl) H)
   insert-holds (suc n) c m groupHead placeHead t p free (branch g f) e r s k H =
       let i = routeDot c d in
-      let ib = route-child c (d .rect) in
+      let ib = route-child c (d .dot .rect) in
       subst Done (sym (turn-down S d n c t p free g f r e))
       (insert-holds n (childData c i) m groupHead placeHead t (p ++ i ∷ []) free (f i) (sub-snoc g f i t p r e) (reach-snoc g f i t p ib r e) (s i ib) k H)

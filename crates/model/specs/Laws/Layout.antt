@@ -10,8 +10,9 @@ use native.Mathlib.Omega.{arith}
 use lib.ListN.{length, replicate, length-replicate}
 use lib.Dec.{eqb, leb, T, le→leb, eqb-refl}
 use Rattle.arithmetic.specs.Linear.{and-t}
-use Rattle.geometry.specs.Laws.Geometry.{leb-true}
-use Rattle.model.specs.Lists.{byBool, length-joinBelow}
+use borrow.Author.Tests.{leb-true}
+use Rattle.model.specs.Lists.{length-joinBelow}
+use Rattle.arithmetic.specs.Tests.{byBool}
 use Rattle.geometry.specs.Settings.{rootOf, inRange}
 use Rattle.model.specs.Shapes.{Shape, Valid}
 use Rattle.model.specs.Layout.{World, groupsOf, placesOf, nodesRight, dotsRight, marksRight, lengthsRight, NodeEntry, PlaceEntry, nodeEntries, placeEntries, nodeWords, dotWords, placeRect, stateOf, layout, cleared, Holds}

@@ -10,16 +10,16 @@ use native.Mathlib.Omega.{arith}
 use lib.IntN.{ℤ, pos}
 use lib.ListN.{length, getD, replicate}
 use lib.Seq.{ext-getD}
-use Rattle.geometry.specs.declared.aabb.AABB.{AABB}
+use Rattle.model.specs.declared.Dot.{Dot}
 use Rattle.model.specs.declared.State.{State}
 use Rattle.model.specs.Sums.{sumOver, byDec}
 use Rattle.model.specs.Lists.{joinBelow, length-joinBelow, All, all-append, all-joinBelow, all-map, count}
-use Rattle.model.specs.Trees.{Dot, Tree, leaf, branch, childNode}
+use Rattle.model.specs.Trees.{Placed, Tree, leaf, branch, childNode}
 use Rattle.model.specs.Shapes.{Shape, Valid}
-use Rattle.model.specs.Layout.{World, none, firstNode, firstDot, NodeEntry, PlaceEntry, treeNodes, freeGroupNodes, chainPlaces, treePlaces, blank, nodeEntries, placeEntries, nodeWords, dotWords, rectWords, placeRect, stateOf, layout, cleared, Holds}
+use Rattle.model.specs.Layout.{World, none, firstNode, firstDot, NodeEntry, PlaceEntry, treeNodes, freeGroupNodes, chainPlaces, treePlaces, blank, nodeEntries, placeEntries, nodeWords, placeWords, dotWords, rectWords, placeRect, stateOf, layout, cleared, Holds}
 use Rattle.model.specs.Laws.Shapes.{below-le}
 use Rattle.model.specs.Laws.Layout.{two-node, two-dot, four-rect, layout-lengths, holds-all}
-use Rattle.model.specs.Memory.{Mem, memory, Chained, Represents, FreeGroups, Represented}
+use Rattle.model.specs.Memory.{Mem, idAt, dotAt, memory, Chained, Represents, FreeGroups, Represented}
 use Rattle.model.specs.Laws.Entries.{getD-joinBelow, nodeIs, placeIs, each-found, finds, nodes-once, places-at, node-range, node-there, place-range, place-there}
 
 -- ---- lists of which all have a property
@@ -43,14 +43,8 @@ all-both P Q (x ∷ xs) a b = ((a .0, b .0), all-both P Q xs (a .1) (b .1))
 abbrev NodeStands : Mem → NodeEntry → Type 0
 NodeStands m e = m .first (e .node) ∷ m .count (e .node) ∷ [] ≡ e .first ∷ e .count ∷ []
 
-abbrev DotStands : Mem → PlaceEntry → Type 0
-DotStands m e = m .id (e .place) ∷ m .next (e .place) ∷ [] ≡ e .id ∷ e .next ∷ []
-
-abbrev RectStands : Mem → PlaceEntry → Type 0
-RectStands m e = m .rect (e .place) ≡ e .rect
-
-PlaceStands : Mem → PlaceEntry → Type 0
-PlaceStands m e = DotStands m e × RectStands m e
+abbrev PlaceStands : Mem → PlaceEntry → Type 0
+PlaceStands m e = (m .dot (e .place) ≡ e .dot) × (m .next (e .place) ≡ e .next)
 
 first-word : (a b : List ℕ) → a ≡ b → getD a 0 0 ≡ getD b 0 0
 first-word a b e = ap (λ (l : List ℕ). getD l 0 0) e
@@ -60,11 +54,9 @@ second-word a b e = ap (λ (l : List ℕ). getD l 1 0) e
 
 -- from the entries to the relation
 
-chain-of : (m : Mem) (ds : List Dot) → All (PlaceStands m) (chainPlaces ds) → Chained m (firstDot ds) ds none
-unfolding PlaceStands
+chain-of : (m : Mem) (ds : List Placed) → All (PlaceStands m) (chainPlaces ds) → Chained m (firstDot ds) ds none
 chain-of m [] a = refl
-chain-of m (d ∷ ds) a =
-    (refl, first-word _ _ (a .0 .0), a .0 .1, subst (λ (n : ℕ). Chained m n ds none) (sym (second-word _ _ (a .0 .0))) (chain-of m ds (a .1)))
+chain-of m (d ∷ ds) a = (refl, a .0 .0, subst (λ (n : ℕ). Chained m n ds none) (sym (a .0 .1)) (chain-of m ds (a .1)))
 
 tree-of : (m : Mem) (a : ℕ) (t : Tree) → All (NodeStands m) (treeNodes a t) → All (PlaceStands m) (treePlaces t) → Represents m a t
 tree-of m a (leaf c) n p = (second-word _ _ (n .0), subst (λ (h : ℕ). Chained m h c none) (sym (first-word _ _ (n .0))) (chain-of m c p))
@@ -96,10 +88,9 @@ free-of m (g ∷ gs) a =
 two : (a b c d : ℕ) → a ≡ c → b ≡ d → _≡_ {A = List ℕ} (a ∷ b ∷ []) (c ∷ d ∷ [])
 two a b c d p q = λ i. p i ∷ q i ∷ []
 
-of-chain : (m : Mem) (h : ℕ) (ds : List Dot) → Chained m h ds none → (h ≡ firstDot ds) × All (PlaceStands m) (chainPlaces ds)
-unfolding PlaceStands
+of-chain : (m : Mem) (h : ℕ) (ds : List Placed) → Chained m h ds none → (h ≡ firstDot ds) × All (PlaceStands m) (chainPlaces ds)
 of-chain m h [] c = (c, tt)
-of-chain m h (d ∷ ds) c = let r = of-chain m (m .next (d .place)) ds (c .3) in (c .0, ((two _ _ _ _ (c .1) (r .0), c .2), r .1))
+of-chain m h (d ∷ ds) c = let r = of-chain m (m .next (d .place)) ds (c .2) in (c .0, ((c .1, r .0), r .1))
 
 of-tree : (m : Mem) (a : ℕ) (t : Tree) → Represents m a t → All (NodeStands m) (treeNodes a t) × All (PlaceStands m) (treePlaces t)
 of-tree m a (leaf c) r = let x = of-chain m (m .first a) c (r .1) in ((two _ _ _ _ (x .0) (r .0), tt), x .1)
@@ -124,9 +115,15 @@ of-free m h (g ∷ gs) r =
 
 -- ---- the layout, read word by word
 
-rect-words : (w : World) (p : ℕ) (r : AABB) → getD (w .rects) (4 * p + 0) (pos 0) ≡ r .x1 → getD (w .rects) (4 * p + 1) (pos 0) ≡ r .y1
-    → getD (w .rects) (4 * p + 2) (pos 0) ≡ r .x2 → getD (w .rects) (4 * p + 3) (pos 0) ≡ r .y2 → memory w .rect p ≡ r
-rect-words w p r a b c d = λ i. record { x1 = a i; y1 = b i; x2 = c i; y2 = d i }
+-- a dot by its words
+dot-words : (w : World) (p : ℕ) (d : Dot) → ((j : ℕ) → j < 4 → getD (w .rects) (4 * p + j) (pos 0) ≡ getD (rectWords (d .rect)) j (pos 0)) → idAt (w .dots) p ≡ d .id
+    → dotAt (w .dots) (w .rects) p ≡ d
+dot-words w p d r id =
+    let x1 = r 0 (omega arith) in
+    let y1 = r 1 (omega arith) in
+    let x2 = r 2 (omega arith) in
+    let y2 = r 3 (omega arith) in
+    λ i. record { id = id i; rect = record { x1 = x1 i; y1 = y1 i; x2 = x2 i; y2 = y2 i } }
 
 module _ (x : Shape) (v : Valid x) where
   layout-nodes : All (NodeStands (memory (layout x))) (nodeEntries x)
@@ -146,23 +143,26 @@ module _ (x : Shape) (v : Valid x) where
   places-once k = omega (arith, places-at x v k, below-le k (x .places))
 
   layout-places : All (PlaceStands (memory (layout x))) (placeEntries x)
-  unfolding layout PlaceStands
+  unfolding layout
   layout-places =
       let es = placeEntries x in
       let n = x .places in
-      all-both (DotStands (memory (layout x))) (RectStands (memory (layout x))) es
-      (all-map (λ e. (dotWords es (e .place) ≡ e .id ∷ e .next ∷ []) × (1 ≤ sumOver (placeIs (e .place)) es)) (DotStands (memory (layout x)))
+      let words = each-found (λ e. e .place) (λ e. placeWords (e .dot) (e .next)) dotWords (λ e es k. refl) es places-once in
+      let rects = each-found (λ e. e .place) (λ e. rectWords (e .dot .rect)) placeRect (λ e es k. refl) es places-once in
+      all-map
+      (λ e. ((dotWords es (e .place) ≡ placeWords (e .dot) (e .next)) × (1 ≤ sumOver (placeIs (e .place)) es))
+      × ((placeRect es (e .place) ≡ rectWords (e .dot .rect)) × (1 ≤ sumOver (placeIs (e .place)) es)))
+      (PlaceStands (memory (layout x)))
       (λ e p.
-      let read : (j : ℕ) → j < 2 → getD (joinBelow n (dotWords es)) (2 * e .place + j) 0 ≡ getD (e .id ∷ e .next ∷ []) j 0 =
-      λ j b. getD-joinBelow 2 n (dotWords es) (two-dot es) (e .place) j 0 (place-range x v (e .place) (p .1)) b ∙ ap (λ (l : List ℕ). getD l j 0) (p .0) in
-      two _ _ _ _ (read 0 (omega arith)) (read 1 (omega arith)))
-      es (each-found (λ e. e .place) (λ e. e .id ∷ e .next ∷ []) dotWords (λ e es k. refl) es places-once))
-      (all-map (λ e. (placeRect es (e .place) ≡ rectWords (e .rect)) × (1 ≤ sumOver (placeIs (e .place)) es)) (RectStands (memory (layout x)))
-      (λ e p.
-      let read : (j : ℕ) → j < 4 → getD (joinBelow n (placeRect es)) (4 * e .place + j) (pos 0) ≡ getD (rectWords (e .rect)) j (pos 0) =
-      λ j b. getD-joinBelow 4 n (placeRect es) (four-rect es) (e .place) j (pos 0) (place-range x v (e .place) (p .1)) b ∙ ap (λ (l : List ℤ). getD l j (pos 0)) (p .0) in
-      rect-words (layout x) (e .place) (e .rect) (read 0 (omega arith)) (read 1 (omega arith)) (read 2 (omega arith)) (read 3 (omega arith)))
-      es (each-found (λ e. e .place) (λ e. rectWords (e .rect)) placeRect (λ e es k. refl) es places-once))
+      let range = place-range x v (e .place) (p .0 .1) in
+      let word : (j : ℕ) → j < 2 → getD (joinBelow n (dotWords es)) (2 * e .place + j) 0 ≡ getD (placeWords (e .dot) (e .next)) j 0 =
+      λ j b. getD-joinBelow 2 n (dotWords es) (two-dot es) (e .place) j 0 range b ∙ ap (λ (l : List ℕ). getD l j 0) (p .0 .0) in
+      let corner : (j : ℕ) → j < 4 → getD (joinBelow n (placeRect es)) (4 * e .place + j) (pos 0) ≡ getD (rectWords (e .dot .rect)) j (pos 0) =
+      λ j b. getD-joinBelow 4 n (placeRect es) (four-rect es) (e .place) j (pos 0) range b ∙ ap (λ (l : List ℤ). getD l j (pos 0)) (p .1 .0) in
+      (dot-words (layout x) (e .place) (e .dot) corner (word 0 (omega arith)), word 1 (omega arith)))
+      es
+      (all-both (λ e. (dotWords es (e .place) ≡ placeWords (e .dot) (e .next)) × (1 ≤ sumOver (placeIs (e .place)) es))
+      (λ e. (placeRect es (e .place) ≡ rectWords (e .dot .rect)) × (1 ≤ sumOver (placeIs (e .place)) es)) es words rects)
 
   pub layout-represented : Represented (layout x) x
   unfolding stateOf layout
@@ -248,7 +248,7 @@ fours-equal n row f l e at =
 
 -- A world that, read word by word, has the valid shape x, holds x: its words are the layout's.
 pub represented-holds : (w : World) (x : Shape) → Valid x → Represented w x → Holds w x
-unfolding cleared layout stateOf PlaceStands
+unfolding cleared layout stateOf
 represented-holds w x v r =
     let m = memory w in
     let t = of-tree m 0 (x .tree) (r .tree) in
@@ -258,17 +258,17 @@ represented-holds w x v r =
     let ps = all-append (PlaceStands m) (treePlaces (x .tree)) (chainPlaces (map blank (x .freePlaces))) (t .1) (c .1) in
     let es = nodeEntries x in
     let fs = placeEntries x in
-    let ds = all-map (PlaceStands m) (DotStands m) (λ e p. p .0) fs ps in
-    let rs = all-map (PlaceStands m) (λ e. rectWords (m .rect (e .place)) ≡ rectWords (e .rect)) (λ e p. ap rectWords (p .1)) fs ps in
+    let ds = all-map (PlaceStands m) (λ e. placeWords (m .dot (e .place)) (m .next (e .place)) ≡ placeWords (e .dot) (e .next)) (λ e p. two _ _ _ _ (ap (λ (d : Dot). d .id) (p .0)) (p .1)) fs ps in
+    let rs = all-map (PlaceStands m) (λ e. rectWords (m .dot (e .place) .rect) ≡ rectWords (e .dot .rect)) (λ e p. ap (λ (d : Dot). rectWords (d .rect)) (p .0)) fs ps in
     let nodes : w .nodes ≡ joinBelow (1 + 5 * x .groups) (nodeWords es) =
     pairs-equal (1 + 5 * x .groups) (w .nodes) (nodeWords es) (omega (arith, r .nodes)) (two-node es)
     (λ k b. finds (λ e. e .node) (λ e. e .first ∷ e .count ∷ []) nodeWords (λ e es k. refl) (λ k. m .first k ∷ m .count k ∷ []) es ns k (node-there x v k b)) in
     let dots : w .dots ≡ joinBelow (x .places) (dotWords fs) =
     pairs-equal (x .places) (w .dots) (dotWords fs) (r .dots) (two-dot fs)
-    (λ k b. finds (λ e. e .place) (λ e. e .id ∷ e .next ∷ []) dotWords (λ e es k. refl) (λ k. m .id k ∷ m .next k ∷ []) fs ds k (place-there x v k b)) in
+    (λ k b. finds (λ e. e .place) (λ e. placeWords (e .dot) (e .next)) dotWords (λ e es k. refl) (λ k. placeWords (m .dot k) (m .next k)) fs ds k (place-there x v k b)) in
     let rects : w .rects ≡ joinBelow (x .places) (placeRect fs) =
     fours-equal (x .places) (w .rects) (placeRect fs) (r .rects) (four-rect fs)
-    (λ k b. finds (λ e. e .place) (λ e. rectWords (e .rect)) placeRect (λ e es k. refl) (λ k. rectWords (m .rect k)) fs rs k (place-there x v k b)) in
+    (λ k b. finds (λ e. e .place) (λ e. rectWords (e .dot .rect)) placeRect (λ e es k. refl) (λ k. rectWords (m .dot k .rect)) fs rs k (place-there x v k b)) in
     let marks : replicate {A = ℕ} (length (w .marks)) 0 ≡ replicate (x .places + x .groups) 0 = ap (λ (n : ℕ). replicate {A = ℕ} n 0) (r .marks) in
     let settings = r .settings in
     let live = r .live in

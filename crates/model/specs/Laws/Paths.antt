@@ -9,7 +9,7 @@ use Prim.Native.Nat.{ℕ, _+_, _-_, _≤_, _<_}
 use native.Mathlib.Decide.{ℕ-discrete}
 use native.Mathlib.Omega.{arith}
 use Rattle.model.specs.Sums.{indicator, indicator-same, indicator-other, sumBelow, sumBelow-ext, sumBelow-add, sumBelow-term, sumBelow-two, sumBelow-zero, sumBelow-only, sumBelow-changed, changed, changed-all, byDec}
-use Rattle.model.specs.Trees.{Dot, Tree, leaf, branch, childNode, sumDots, sumGroups, atPlace, placeCount, groupCount}
+use Rattle.model.specs.Trees.{Placed, Tree, leaf, branch, childNode, sumDots, sumGroups, atPlace, placeCount, groupCount}
 use Rattle.model.specs.Memory.{Mem, Represents}
 use Rattle.model.specs.Laws.Frames.{sumNodes, nodeCount, SamePlace, SameNode, tree-frame}
 
@@ -36,7 +36,7 @@ put (branch g f) (i ∷ p) u = branch g (changed f i (put (f i) p u))
 
 -- ---- sums
 
-pub sumDots-put : (h : Dot → ℕ) (t : Tree) (p : List ℕ) (u : Tree) → Children p → sumDots h (put t p u) + sumDots h (sub t p) ≡ sumDots h t + sumDots h u
+pub sumDots-put : (h : Placed → ℕ) (t : Tree) (p : List ℕ) (u : Tree) → Children p → sumDots h (put t p u) + sumDots h (sub t p) ≡ sumDots h t + sumDots h u
 sumDots-put h t [] u k = omega arith
 sumDots-put h (leaf c) (i ∷ p) u k = omega arith
 sumDots-put h (branch g f) (i ∷ p) u k =
@@ -55,7 +55,7 @@ sumNodes-put h a (leaf c) (i ∷ p) u k = omega arith
 sumNodes-put h a (branch g f) (i ∷ p) u k =
     omega (arith, sumNodes-put h (childNode g i) (f i) p u (k .1), sumBelow-changed 5 (λ j x. sumNodes h (childNode g j) x) f i (put (f i) p u) (k .0))
 
-pub sumDots-sub : (h : Dot → ℕ) (t : Tree) (p : List ℕ) → Children p → sumDots h (sub t p) ≤ sumDots h t
+pub sumDots-sub : (h : Placed → ℕ) (t : Tree) (p : List ℕ) → Children p → sumDots h (sub t p) ≤ sumDots h t
 sumDots-sub h t [] k = omega arith
 sumDots-sub h (leaf c) (i ∷ p) k = omega arith
 sumDots-sub h (branch g f) (i ∷ p) k = omega (arith, sumDots-sub h (f i) p (k .1), sumBelow-term 5 (λ j. sumDots h (f j)) i (k .0))

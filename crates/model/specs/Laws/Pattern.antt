@@ -15,8 +15,9 @@ use native.Mathlib.Decide.{decLt}
 use native.Mathlib.Omega.{arith}
 use lib.ListN.{length, replicate}
 use Rattle.model.specs.Sums.{indicator-same, sumOver-one, sumBelow-term, byDec}
-use Rattle.model.specs.Lists.{byBool, true-false, count}
-use Rattle.model.specs.Trees.{Dot, Tree, leaf, branch, childNode, size}
+use Rattle.model.specs.Lists.{count}
+use Rattle.arithmetic.specs.Tests.{byBool, true-false}
+use Rattle.model.specs.Trees.{Placed, Tree, leaf, branch, childNode, size}
 use Rattle.model.specs.Shapes.{Shape, Valid, WellFormed}
 use Rattle.model.specs.Layout.{World, none, branchMark, blank, layout, cleared, lengthsRight, Holds}
 use Rattle.model.specs.Laws.Shapes.{below-no, live-and-free}
@@ -25,17 +26,17 @@ use Rattle.geometry.specs.Settings.{rootOf, inRange}
 use Rattle.model.specs.Calls.{Reply, refused, tooMany, refusal, Verdict, refuse, overflow, accept, Exit, exit, carriedOut, Obeys}
 use Rattle.model.specs.Laws.Memory.{holds-represented}
 
-dot-equal : (d e : Dot) → d .place ≡ e .place → d .id ≡ e .id → d .rect ≡ e .rect → d ≡ e
-dot-equal d e p q r = λ i. record { place = p i; id = q i; rect = r i }
+placed-equal : (d e : Placed) → d .place ≡ e .place → d .dot ≡ e .dot → d ≡ e
+placed-equal d e p q = λ i. record { place = p i; dot = q i }
 
-one-chain : (m : Mem) (h : ℕ) (c e : List Dot) → length c ≡ length e → Chained m h c none → Chained m h e none → c ≡ e
+one-chain : (m : Mem) (h : ℕ) (c e : List Placed) → length c ≡ length e → Chained m h c none → Chained m h e none → c ≡ e
 one-chain m h [] [] l s r = refl
 one-chain m h [] (e ∷ es) l s r = absurd (omega arith)
 one-chain m h (d ∷ ds) [] l s r = absurd (omega arith)
 one-chain m h (d ∷ ds) (e ∷ es) l s r =
     let p : d .place ≡ e .place = sym (s .0) ∙ r .0 in
-    let one = dot-equal d e p (sym (s .1) ∙ ap (m .id) p ∙ r .1) (sym (s .2) ∙ ap (m .rect) p ∙ r .2) in
-    let rest = one-chain m (m .next (d .place)) ds es (suc-inj l) (s .3) (subst (λ (q : ℕ). Chained m (m .next q) es none) (sym p) (r .3)) in
+    let one = placed-equal d e p (sym (s .1) ∙ ap (m .dot) p ∙ r .1) in
+    let rest = one-chain m (m .next (d .place)) ds es (suc-inj l) (s .2) (subst (λ (q : ℕ). Chained m (m .next q) es none) (sym p) (r .2)) in
     λ i. one i ∷ rest i
 
 -- no child beyond 4, at any depth

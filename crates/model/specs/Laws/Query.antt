@@ -14,36 +14,38 @@ use lib.ListN.{length, length-append}
 use Rattle.geometry.specs.declared.aabb.AABB.{AABB}
 use Rattle.geometry.specs.declared.node_data.NodeData.{NodeData}
 use Rattle.model.specs.Sums.{sumOver-one, sumBelow, sumBelow-ext, sumBelow-le, sumBelow-term, sumBelow-some}
-use Rattle.model.specs.Lists.{byBool, true-false, all-map, joinBelow, joinBelow-ext, filter, filter-none, filter-joinBelow}
-use Rattle.model.specs.Trees.{Dot, Tree, leaf, branch, sumGroups, AllDots, Shallow, size, dots, allDots-dots}
+use Rattle.model.specs.Lists.{all-map, joinBelow, joinBelow-ext, filter, filter-none, filter-joinBelow}
+use Rattle.arithmetic.specs.Tests.{byBool, true-false}
+use Rattle.model.specs.Trees.{Placed, Tree, leaf, branch, sumGroups, AllDots, Shallow, size, dots, allDots-dots}
+use Rattle.model.specs.Insert.{routeDot}
+use Rattle.model.specs.Dots.{isHit}
+use Rattle.model.specs.Laws.Dots.{hit-opens}
 use Rattle.geometry.specs.Cells.{routeCell, mayDivide, childData, route, opens}
-use Rattle.geometry.specs.Rectangles.{intersects}
-use Rattle.geometry.specs.Laws.Geometry.{prune}
 use Rattle.model.specs.Query.{hits, opened, leavesOf, leafCount}
 use Rattle.model.specs.Cleanup.{busy}
 
 abbrev pub Routed : NodeData → Tree → Type 0
 Routed n (leaf chain) = Unit {0}
-Routed n (branch g f) = (i : ℕ) → i < 5 → AllDots (λ d. route n (d .rect) ≡ i) (f i) × Routed (childData n i) (f i)
+Routed n (branch g f) = (i : ℕ) → i < 5 → AllDots (λ d. routeDot n d ≡ i) (f i) × Routed (childData n i) (f i)
 
 module _ (q : AABB) where
-  shut : (n : NodeData) (i : ℕ) → opens q n i ≡ false → (d : Dot) → route n (d .rect) ≡ i → intersects q (d .rect) ≡ false
+  shut : (n : NodeData) (i : ℕ) → opens q n i ≡ false → (d : Placed) → routeDot n d ≡ i → isHit q (d .dot) ≡ false
   shut n i e d z =
-      byBool (intersects q (d .rect)) (λ h. true-false (sym (prune q n (d .rect) h) ∙ ap (opens q n) z ∙ e)) (λ h. h)
+      byBool (isHit q (d .dot)) (λ h. true-false (sym (hit-opens q n (d .dot) h) ∙ ap (opens q n) z ∙ e)) (λ h. h)
 
-  pub hits-filter : (n : NodeData) (t : Tree) → Routed n t → hits q n t ≡ filter (λ d. intersects q (d .rect)) (dots t)
+  pub hits-filter : (n : NodeData) (t : Tree) → Routed n t → hits q n t ≡ filter (λ d. isHit q (d .dot)) (dots t)
   hits-filter n (leaf ds) r = refl
   hits-filter n (branch g f) r =
-      joinBelow-ext 5 (λ i. cond (opens q n i) (hits q (childData n i) (f i)) []) (λ i. filter (λ d. intersects q (d .rect)) (dots (f i)))
+      joinBelow-ext 5 (λ i. cond (opens q n i) (hits q (childData n i) (f i)) []) (λ i. filter (λ d. isHit q (d .dot)) (dots (f i)))
       (λ i b.
       byBool (opens q n i)
       (λ e. rw e (hits-filter (childData n i) (f i) (r i b .1)))
       (λ e.
       rw e
-      (sym (filter-none (λ d. intersects q (d .rect)) (dots (f i))
-      (all-map (λ d. route n (d .rect) ≡ i) (λ d. intersects q (d .rect) ≡ false) (shut n i e) (dots (f i))
-      (allDots-dots (λ d. route n (d .rect) ≡ i) (f i) (r i b .0)))))))
-      ∙ sym (filter-joinBelow (λ d. intersects q (d .rect)) 5 (λ i. dots (f i)))
+      (sym (filter-none (λ d. isHit q (d .dot)) (dots (f i))
+      (all-map (λ d. routeDot n d ≡ i) (λ d. isHit q (d .dot) ≡ false) (shut n i e) (dots (f i))
+      (allDots-dots (λ d. routeDot n d ≡ i) (f i) (r i b .0)))))))
+      ∙ sym (filter-joinBelow (λ d. isHit q (d .dot)) 5 (λ i. dots (f i)))
 
   pub opened-le : (n : NodeData) (t : Tree) → opened q n t ≤ 1 + 5 * sumGroups (λ g. 1) t
   opened-le n (leaf ds) = omega arith

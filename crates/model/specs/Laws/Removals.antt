@@ -10,23 +10,23 @@ use native.Mathlib.Decide.{ℕ-discrete}
 use native.Mathlib.Omega.{arith}
 use lib.ListN.{length-append}
 use Rattle.model.specs.Sums.{indicator, indicator-same, indicator-other, indicator-le, sumOver, sumOver-append, sumBelow-zero, changed, changed-same, changed-other, byDec}
-use Rattle.geometry.specs.Rectangles.{zeroRect}
-use Rattle.model.specs.Trees.{Dot, Tree, leaf, branch, childNode, sumDots, sumGroups, atPlace, groupCount}
+use Rattle.model.specs.Dots.{zeroDot}
+use Rattle.model.specs.Trees.{Placed, Tree, leaf, branch, childNode, sumDots, sumGroups, atPlace, groupCount}
 use Rattle.model.specs.Layout.{none, blank}
 use Rattle.model.specs.Memory.{Mem, Chained, Represents}
 use Rattle.model.specs.Laws.Shapes.{below-le}
 use Rattle.model.specs.Laws.Frames.{sumNodes, nodeCount, SamePlace, SameNode, chain-frame, chain-pop, chain-drop}
 use Rattle.model.specs.Laws.Paths.{Children, sub, nodeAt, put, sumDots-put, sumGroups-put, sumDots-sub, sumNodes-sub, tree-sub, tree-put, nodes-groups}
-use Rattle.model.specs.Laws.Stores.{setFirst, setCount, setId, setNext, setRect, free-frame, Stored, nodes-once, node-not-free, node-zero}
+use Rattle.model.specs.Laws.Stores.{setFirst, setCount, setDot, setNext, free-frame, Stored, nodes-once, node-not-free, node-zero}
 use Rattle.model.specs.Cleanup.{cleanTree, freedBy}
 use Rattle.model.specs.Laws.Cleanup.{clean-sum, clean-groups}
 use Rattle.model.specs.Laws.Collapses.{cleanWords, overGroup, clean-got}
 
 -- ---- a leaf changes, with the free places: what is owed
 
-module _ (G N : ℕ) (m : Mem) (groupHead placeHead : ℕ) (t : Tree) (free spare : List ℕ) (path : List ℕ) (c : List Dot) (children : Children path) (e : sub t path ≡ leaf c)
+module _ (G N : ℕ) (m : Mem) (groupHead placeHead : ℕ) (t : Tree) (free spare : List ℕ) (path : List ℕ) (c : List Placed) (children : Children path) (e : sub t path ≡ leaf c)
     (H : Stored G N m groupHead placeHead t free spare) where
-  pub leaf-holds : (w : Mem) (placeHead′ : ℕ) (c′ : List Dot) (spare′ : List ℕ) → let b = nodeAt 0 t path in
+  pub leaf-holds : (w : Mem) (placeHead′ : ℕ) (c′ : List Placed) (spare′ : List ℕ) → let b = nodeAt 0 t path in
       ((k : ℕ) → k ≢ b → SameNode m w k)
       → ((k : ℕ) → sumOver (atPlace k) c + sumOver (atPlace k) (map blank spare) ≡ 0 → SamePlace m w k)
       → Represents w b (leaf c′) → Chained w placeHead′ (map blank spare′) none
@@ -50,16 +50,16 @@ module _ (G N : ℕ) (m : Mem) (groupHead placeHead : ℕ) (t : Tree) (free spar
 
 -- the place p goes to the head of the free places
 abbrev pub freeWords : Mem → ℕ → ℕ → Mem
-freeWords m p placeHead = setNext (setRect (setId m p 0) p zeroRect) p placeHead
+freeWords m p placeHead = setNext (setDot m p zeroDot) p placeHead
 
 free-other : (m : Mem) (p placeHead k : ℕ) → k ≢ p → SamePlace m (freeWords m p placeHead) k
-free-other m p placeHead k ne = (sym (changed-other (m .id) p 0 k ne), sym (changed-other (m .next) p placeHead k ne), sym (changed-other (m .rect) p zeroRect k ne))
+free-other m p placeHead k ne = (sym (changed-other (m .dot) p zeroDot k ne), sym (changed-other (m .next) p placeHead k ne))
 
 -- the head of the chain goes
 abbrev pub popWords : Mem → ℕ → ℕ → ℕ → Mem
 popWords m b p placeHead = freeWords (setCount (setFirst m b (m .next p)) b (m .count b - 1)) p placeHead
 
-pub pop-holds : (G N : ℕ) (m : Mem) (groupHead placeHead : ℕ) (t : Tree) (free spare : List ℕ) (path : List ℕ) (d : Dot) (c : List Dot) → Children path → sub t path ≡ leaf (d ∷ c)
+pub pop-holds : (G N : ℕ) (m : Mem) (groupHead placeHead : ℕ) (t : Tree) (free spare : List ℕ) (path : List ℕ) (d : Placed) (c : List Placed) → Children path → sub t path ≡ leaf (d ∷ c)
     → Stored G N m groupHead placeHead t free spare
     → Stored G N (popWords m (nodeAt 0 t path) (d .place) placeHead) groupHead (d .place) (put t path (leaf c)) free (d .place ∷ spare)
 pop-holds G N m groupHead placeHead t free spare path d c children e H =
@@ -78,8 +78,7 @@ pop-holds G N m groupHead placeHead t free spare path d c children e H =
       subst (λ (y : ℕ). Chained w y c none) (sym (changed-same (m .first) b (m .next p))) (chain-pop m w (m .first b) d c none (λ k h. off k (omega arith)) (r .1)),
     ) (
       refl,
-      changed-same (m .id) p 0,
-      changed-same (m .rect) p zeroRect,
+      changed-same (m .dot) p zeroDot,
       subst (λ (y : ℕ). Chained w y (map blank spare) none) (sym (changed-same (m .next) p placeHead)) (chain-frame m w placeHead (map blank spare) none (λ k h. off k (omega arith)) (H .places)),
     )
     (λ k. omega arith)
@@ -88,7 +87,7 @@ pop-holds G N m groupHead placeHead t free spare path d c children e H =
 abbrev pub dropWords : Mem → ℕ → ℕ → ℕ → ℕ → Mem
 dropWords m b q p placeHead = freeWords (setCount (setNext m q (m .next p)) b (m .count b - 1)) p placeHead
 
-pub drop-holds : (G N : ℕ) (m : Mem) (groupHead placeHead : ℕ) (t : Tree) (free spare : List ℕ) (path : List ℕ) (xs : List Dot) (q d : Dot) (ys : List Dot) → Children path
+pub drop-holds : (G N : ℕ) (m : Mem) (groupHead placeHead : ℕ) (t : Tree) (free spare : List ℕ) (path : List ℕ) (xs : List Placed) (q d : Placed) (ys : List Placed) → Children path
     → sub t path ≡ leaf (xs ++ q ∷ d ∷ ys) → Stored G N m groupHead placeHead t free spare
     → Stored G N (dropWords m (nodeAt 0 t path) (q .place) (d .place) placeHead) groupHead (d .place) (put t path (leaf (xs ++ q ∷ ys))) free (d .place ∷ spare)
 drop-holds G N m groupHead placeHead t free spare path xs q d ys children e H =
@@ -102,7 +101,7 @@ drop-holds G N m groupHead placeHead t free spare path xs q d ys children e H =
     let all : (k : ℕ) → sumOver (atPlace k) xs + (indicator k o + (indicator k p + sumOver (atPlace k) ys)) + sumOver (atPlace k) (map blank spare) ≤ 1 =
     λ k. omega (arith, H .placesOnce k, below-le k N, sumDots-sub (atPlace k) t path children, ap (sumDots (atPlace k)) e, sum k) in
     let same : (k : ℕ) → k ≢ o → k ≢ p → SamePlace m w k = λ k no np.
-    (sym (changed-other (m .id) p 0 k np), sym (changed-other (changed (m .next) o (m .next p)) p placeHead k np ∙ changed-other (m .next) o (m .next p) k no), sym (changed-other (m .rect) p zeroRect k np)) in
+    (sym (changed-other (m .dot) p zeroDot k np), sym (changed-other (changed (m .next) o (m .next p)) p placeHead k np ∙ changed-other (m .next) o (m .next p) k no)) in
     let off : (k : ℕ) → 1 ≤ sumOver (atPlace k) xs + sumOver (atPlace k) ys + sumOver (atPlace k) (map blank spare) → SamePlace m w k = λ k h.
     same k (λ x. omega (arith, all k, ap (λ (y : ℕ). indicator y o) x, indicator-same o)) (λ x. omega (arith, all k, ap (λ (y : ℕ). indicator y p) x, indicator-same p)) in
     let op : o ≢ p = λ x. omega (arith, all o, ap (λ (y : ℕ). indicator o y) x, indicator-same o) in
@@ -111,11 +110,10 @@ drop-holds G N m groupHead placeHead t free spare path xs q d ys children e H =
     (λ k z. same k (λ x. omega (arith, sum k, ap (λ (y : ℕ). indicator y o) x, indicator-same o)) (λ x. omega (arith, sum k, ap (λ (y : ℕ). indicator y p) x, indicator-same p))) (
       changed-same (m .count) b (m .count b - 1) ∙ omega (arith, r .0, length-append xs (q ∷ d ∷ ys), length-append xs (q ∷ ys)),
       chain-drop m w (m .first b) xs q d ys none (λ k h. off k (omega arith))
-          (changed-other (m .id) p 0 o op) (changed-other (m .rect) p zeroRect o op) (changed-other (changed (m .next) o (m .next p)) p placeHead o op ∙ changed-same (m .next) o (m .next p)) (r .1),
+          (changed-other (m .dot) p zeroDot o op) (changed-other (changed (m .next) o (m .next p)) p placeHead o op ∙ changed-same (m .next) o (m .next p)) (r .1),
     ) (
       refl,
-      changed-same (m .id) p 0,
-      changed-same (m .rect) p zeroRect,
+      changed-same (m .dot) p zeroDot,
       subst (λ (y : ℕ). Chained w y (map blank spare) none) (sym (changed-same (changed (m .next) o (m .next p)) p placeHead)) (chain-frame m w placeHead (map blank spare) none (λ k h. off k (omega arith)) (H .places)),
     )
     (λ k. omega (arith, sum k, sumOver-append (atPlace k) xs (q ∷ ys)))

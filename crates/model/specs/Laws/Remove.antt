@@ -9,15 +9,17 @@ use Prim.Native.Nat.{ℕ, zero, suc, _+_, _-_, _≤_}
 use native.Mathlib.Decide.{decLe}
 use native.Mathlib.Omega.{arith}
 use lib.ListN.{length}
-use lib.Dec.{eqb, eqb→eq, eqb-refl, T}
 use Rattle.geometry.specs.declared.aabb.AABB.{AABB}
 use Rattle.geometry.specs.declared.settings.Settings.{Settings}
 use Rattle.geometry.specs.declared.node_data.NodeData.{NodeData}
 use Rattle.model.specs.Sums.{indicator, indicator-other, changed-other, changed-all, sumOver, sumBelow-some, sumBelow-changed, byDec}
-use Rattle.model.specs.Lists.{byBool, true-false, All}
-use Rattle.model.specs.Trees.{Dot, Tree, leaf, branch, sumDots, sumGroups, AllDots, Shallow}
+use Rattle.model.specs.Lists.{All}
+use Rattle.arithmetic.specs.Tests.{byBool, true-false}
+use Rattle.model.specs.Trees.{Placed, Tree, leaf, branch, sumDots, sumGroups, AllDots, Shallow}
+use Rattle.model.specs.Insert.{routeDot}
+use Rattle.model.specs.Dots.{acceptableDot, matches}
+use Rattle.model.specs.Laws.Dots.{match-id, id-match}
 use Rattle.geometry.specs.Cells.{routeCell, mayDivide, childData, route}
-use Rattle.geometry.specs.Settings.{rootOf, acceptable}
 use Rattle.geometry.specs.Rectangles.{sameRect}
 use Rattle.geometry.specs.Laws.Geometry.{route-child}
 use lib.IntN.{ℤ}
@@ -46,56 +48,50 @@ pub sameRect-same : (r : AABB) → sameRect r r ≡ true
 unfolding sameRect
 sameRect-same r = rw (t-eq (r .x1) (r .x1) refl, t-eq (r .y1) (r .y1) refl, t-eq (r .x2) (r .x2) refl, t-eq (r .y2) (r .y2) refl) refl
 
-pub eqb-true : (m n : ℕ) → eqb m n ≡ true → m ≡ n
-eqb-true m n e = eqb→eq m n (subst T (sym e) tt)
-
-pub eqb-same : (n : ℕ) → eqb n n ≡ true
-eqb-same n = byBool (eqb n n) (λ e. e) (λ e. absurd (subst T e (eqb-refl n)))
-
 -- a dot of id k went, and p was its place
-abbrev pub Gone : ℕ → ℕ → ((Dot → ℕ) → ℕ) → ((Dot → ℕ) → ℕ) → Type 0
-Gone k p was is = (d : Dot) × (d .id ≡ k) × ((h : Dot → ℕ) → was h ≡ h d + is h) × (d .place ≡ p)
+abbrev pub Gone : ℕ → ℕ → ((Placed → ℕ) → ℕ) → ((Placed → ℕ) → ℕ) → Type 0
+Gone k p was is = (d : Placed) × (d .dot .id ≡ k) × ((h : Placed → ℕ) → was h ≡ h d + is h) × (d .place ≡ p)
 
-pub out-gone : (k : ℕ) (ds : List Dot) → firstHas k ds ≡ true → Gone k (firstPlace k ds) (λ h. sumOver h ds) (λ h. sumOver h (firstOut k ds))
+pub out-gone : (k : ℕ) (ds : List Placed) → firstHas k ds ≡ true → Gone k (firstPlace k ds) (λ h. sumOver h ds) (λ h. sumOver h (firstOut k ds))
 out-gone k [] e = true-false (sym e)
 out-gone k (d ∷ ds) e =
-    byBool (eqb k (d .id))
-    (λ t. (d, sym (eqb-true k (d .id) t), (λ h. rw t refl), rw t refl))
+    byBool (matches k (d .dot))
+    (λ t. (d, match-id k (d .dot) t, (λ h. rw t refl), rw t refl))
     (λ t. let r = out-gone k ds (rw t at e) in (r .0, r .1, (λ h. rw t (omega (arith, r .2 h))), rw t (r .3)))
 
-pub has-first : (k : ℕ) (ds : List Dot) → 1 ≤ sumOver (λ d. indicator k (d .id)) ds → firstHas k ds ≡ true
+pub has-first : (k : ℕ) (ds : List Placed) → 1 ≤ sumOver (λ d. indicator k (d .dot .id)) ds → firstHas k ds ≡ true
 has-first k [] h = absurd (omega arith)
 has-first k (d ∷ ds) h =
-    byBool (eqb k (d .id))
+    byBool (matches k (d .dot))
     (λ t. rw t refl)
-    (λ t. rw t (has-first k ds (omega (arith, indicator-other k (d .id) (λ e. true-false (sym (ap (λ (y : ℕ). eqb k y) (sym e) ∙ eqb-same k) ∙ t))))))
+    (λ t. rw t (has-first k ds (omega (arith, indicator-other k (d .dot .id) (λ e. true-false (sym (id-match k (d .dot) (sym e)) ∙ t))))))
 
-pub all-out : (P : Dot → Type 0) (k : ℕ) (ds : List Dot) → All P ds → All P (firstOut k ds)
+pub all-out : (P : Placed → Type 0) (k : ℕ) (ds : List Placed) → All P ds → All P (firstOut k ds)
 all-out P k [] a = tt
-all-out P k (d ∷ ds) a = byBool (eqb k (d .id)) (λ t. rw t (a .1)) (λ t. rw t (a .0, all-out P k ds (a .1)))
+all-out P k (d ∷ ds) a = byBool (matches k (d .dot)) (λ t. rw t (a .1)) (λ t. rw t (a .0, all-out P k ds (a .1)))
 
-all-some : (P : Dot → Type 0) (h : Dot → ℕ) (ds : List Dot) → All P ds → 1 ≤ sumOver h ds → (d : Dot) × P d × (1 ≤ h d)
+all-some : (P : Placed → Type 0) (h : Placed → ℕ) (ds : List Placed) → All P ds → 1 ≤ sumOver h ds → (d : Placed) × P d × (1 ≤ h d)
 all-some P h [] a b = absurd (omega arith)
 all-some P h (d ∷ ds) a b =
     byDec (native.Mathlib.Decide.decLe 1 (h d)) (λ c. (d, a .0, c)) (λ c. all-some P h ds (a .1) (omega arith))
 
 -- a dot that h counts is there, with what holds of all
-pub allDots-some : (P : Dot → Type 0) (h : Dot → ℕ) (t : Tree) → AllDots P t → 1 ≤ sumDots h t → (d : Dot) × P d × (1 ≤ h d)
+pub allDots-some : (P : Placed → Type 0) (h : Placed → ℕ) (t : Tree) → AllDots P t → 1 ≤ sumDots h t → (d : Placed) × P d × (1 ≤ h d)
 allDots-some P h (leaf c) a b = all-some P h c a b
 allDots-some P h (branch g f) a b =
     let s = sumBelow-some 5 (λ i. sumDots h (f i)) b in allDots-some P h (f (s .0)) (a (s .0) (s .1)) (s .2)
 
 -- 1 at a dot of this id and rectangle
-abbrev pub pair : ℕ → AABB → Dot → ℕ
-pair k r d = cond (sameRect r (d .rect)) (indicator k (d .id)) 0
+abbrev pub pair : ℕ → AABB → Placed → ℕ
+pair k r d = cond (sameRect r (d .dot .rect)) (indicator k (d .dot .id)) 0
 
-pair-le : (k : ℕ) (r : AABB) (d : Dot) → pair k r d ≤ indicator k (d .id)
-pair-le k r d = byBool (sameRect r (d .rect)) (λ e. rw e (omega arith)) (λ e. rw e (omega arith))
+pair-le : (k : ℕ) (r : AABB) (d : Placed) → pair k r d ≤ indicator k (d .dot .id)
+pair-le k r d = byBool (sameRect r (d .dot .rect)) (λ e. rw e (omega arith)) (λ e. rw e (omega arith))
 
-pair-rect : (k : ℕ) (r : AABB) (d : Dot) → 1 ≤ pair k r d → r ≡ d .rect
-pair-rect k r d h = byBool (sameRect r (d .rect)) (λ e. sameRect-true r (d .rect) e) (λ e. absurd (omega (arith, rw e at h)))
+pair-rect : (k : ℕ) (r : AABB) (d : Placed) → 1 ≤ pair k r d → r ≡ d .dot .rect
+pair-rect k r d h = byBool (sameRect r (d .dot .rect)) (λ e. sameRect-true r (d .dot .rect) e) (λ e. absurd (omega (arith, rw e at h)))
 
-sumOver-le : (h k : Dot → ℕ) (ds : List Dot) → ((d : Dot) → h d ≤ k d) → sumOver h ds ≤ sumOver k ds
+sumOver-le : (h k : Placed → ℕ) (ds : List Placed) → ((d : Placed) → h d ≤ k d) → sumOver h ds ≤ sumOver k ds
 sumOver-le h k [] e = omega arith
 sumOver-le h k (d ∷ ds) e = omega (arith, e d, sumOver-le h k ds e)
 
@@ -108,17 +104,17 @@ module _ (k : ℕ) (r : AABB) where
       (x .0, x .1, (λ h. omega (arith, x .2 h, sumBelow-changed 5 (λ j y. sumDots h y) f i (removeAt k r (childData c i) (f i)) (route-child c r))), x .3)
 
   pub found-live : (c : NodeData) (t : Tree) → Routed c t → 1 ≤ sumDots (pair k r) t → removeSays k r c t ≡ true
-  found-live c (leaf ds) ro h = has-first k ds (omega (arith, sumOver-le (pair k r) (λ d. indicator k (d .id)) ds (pair-le k r)))
+  found-live c (leaf ds) ro h = has-first k ds (omega (arith, sumOver-le (pair k r) (λ d. indicator k (d .dot .id)) ds (pair-le k r)))
   found-live c (branch g f) ro h =
       let s = sumBelow-some 5 (λ i. sumDots (pair k r) (f i)) h in
       let j = s .0 in
       let i = route c r in
-      let d = allDots-some (λ d. route c (d .rect) ≡ j) (pair k r) (f j) (ro j (s .1) .0) (s .2) in
+      let d = allDots-some (λ d. routeDot c d ≡ j) (pair k r) (f j) (ro j (s .1) .0) (s .2) in
       let e : j ≡ i = sym (ap (route c) (pair-rect k r (d .0) (d .2)) ∙ d .1) in
       let p : 1 ≤ sumDots (pair k r) (f i) = subst (λ (y : ℕ). 1 ≤ sumDots (pair k r) (f y)) e (s .2) in
       found-live (childData c i) (f i) (ro i (route-child c r) .1) p
 
-  pub remove-all : (P : Dot → Type 0) (c : NodeData) (t : Tree) → AllDots P t → AllDots P (removeAt k r c t)
+  pub remove-all : (P : Placed → Type 0) (c : NodeData) (t : Tree) → AllDots P t → AllDots P (removeAt k r c t)
   remove-all P c (leaf ds) a = all-out P k ds a
   remove-all P c (branch g f) a =
       let i = route c r in
@@ -137,9 +133,9 @@ module _ (k : ℕ) (r : AABB) where
       let i = route c r in
       let ib = route-child c r in
       let u = removeAt k r (childData c i) (f i) in
-      λ j b. changed-all (λ (j : ℕ) (x : Tree). AllDots (λ d. route c (d .rect) ≡ j) x × Routed (childData c j) x) f i u j
-      (λ e. subst (λ (y : ℕ). AllDots (λ d. route c (d .rect) ≡ y) u × Routed (childData c y) u) (sym e)
-      (remove-all (λ d. route c (d .rect) ≡ i) (childData c i) (f i) (ro i ib .0), remove-routed (childData c i) (f i) (ro i ib .1)))
+      λ j b. changed-all (λ (j : ℕ) (x : Tree). AllDots (λ d. routeDot c d ≡ j) x × Routed (childData c j) x) f i u j
+      (λ e. subst (λ (y : ℕ). AllDots (λ d. routeDot c d ≡ y) u × Routed (childData c y) u) (sym e)
+      (remove-all (λ d. routeDot c d ≡ i) (childData c i) (f i) (ro i ib .0), remove-routed (childData c i) (f i) (ro i ib .1)))
       (λ ne. ro j b)
 
 module _ (k : ℕ) (r : AABB) where
@@ -150,21 +146,21 @@ module _ (k : ℕ) (r : AABB) where
       omega (arith, remove-groups h (childData c i) (f i), sumBelow-changed 5 (λ j y. sumGroups h y) f i (removeAt k r (childData c i) (f i)) (route-child c r))
 
 module _ (S : Settings) where
-  out-length : (k : ℕ) (ds : List Dot) → length (firstOut k ds) ≤ length ds
+  out-length : (k : ℕ) (ds : List Placed) → length (firstOut k ds) ≤ length ds
   out-length k [] = omega arith
-  out-length k (d ∷ ds) = byBool (eqb k (d .id)) (λ e. rw e (omega arith)) (λ e. rw e (omega (arith, out-length k ds)))
+  out-length k (d ∷ ds) = byBool (matches k (d .dot)) (λ e. rw e (omega arith)) (λ e. rw e (omega (arith, out-length k ds)))
 
   pub remove-valid : (k : ℕ) (r : AABB) (c : NodeData) (t : Tree) → WellFormed S c t → WellFormed S c (removeAt k r c t)
-  remove-valid k r c (leaf ds) v = (all-out (λ d. acceptable S (d .rect) ≡ true) k ds (v .0), λ m. omega (arith, out-length k ds, v .1 m))
+  remove-valid k r c (leaf ds) v = (all-out (λ d. acceptableDot S (d .dot) ≡ true) k ds (v .0), λ m. omega (arith, out-length k ds, v .1 m))
   remove-valid k r c (branch g f) v =
       let i = route c r in
       let ib = route-child c r in
       let u = removeAt k r (childData c i) (f i) in (
         v .0,
         λ j b.
-            changed-all (λ (j : ℕ) (x : Tree). AllDots (λ d. route c (d .rect) ≡ j) x × WellFormed S (childData c j) x) f i u j
-            (λ x. subst (λ (y : ℕ). AllDots (λ d. route c (d .rect) ≡ y) u × WellFormed S (childData c y) u) (sym x)
-            (remove-all k r (λ d. route c (d .rect) ≡ i) (childData c i) (f i) (v .1 i ib .0), remove-valid k r (childData c i) (f i) (v .1 i ib .1)))
+            changed-all (λ (j : ℕ) (x : Tree). AllDots (λ d. routeDot c d ≡ j) x × WellFormed S (childData c j) x) f i u j
+            (λ x. subst (λ (y : ℕ). AllDots (λ d. routeDot c d ≡ y) u × WellFormed S (childData c y) u) (sym x)
+            (remove-all k r (λ d. routeDot c d ≡ i) (childData c i) (f i) (v .1 i ib .0), remove-valid k r (childData c i) (f i) (v .1 i ib .1)))
             (λ x. v .1 j b),
         λ j b. changed-other f i u j (λ x. omega arith) ∙ v .2 j b,
       )

@@ -9,9 +9,10 @@ use Prim.Native.Nat.{ℕ}
 use lib.ListN.{length, drop}
 use lib.Dec.{ltb}
 use Rattle.geometry.specs.declared.aabb.AABB.{AABB}
-use Rattle.model.specs.Lists.{byBool}
-use Rattle.geometry.specs.Settings.{rootOf, inRange}
-use Rattle.model.specs.Shapes.{Shape, inserted, splitsFor, removed, foundBy, cleaned, cleans, listed, opensFor}
+use Rattle.arithmetic.specs.Tests.{byBool}
+use Rattle.geometry.specs.Settings.{inRange}
+use Rattle.model.specs.declared.Dot.{Dot}
+use Rattle.model.specs.Shapes.{Shape, inserted, splitsMade, removed, foundBy, cleaned, cleans, listed, opensFor}
 use Rattle.model.specs.Layout.{World, layout, cleared, Holds}
 use Rattle.model.specs.Calls.{refused, tooMany, answered, Verdict, refuse, overflow, accept, carriedOut, Obeys, Listed, insertRule, removeRule, cleanupRule, queryRule, Insert, Remove, Cleanup, Query}
 use Rattle.model.specs.Book.{Event, insert, remove, cleanup, query, Happens, Run}
@@ -20,13 +21,13 @@ use Rattle.model.specs.Laws.Pattern.{by-tree}
 use Rattle.model.specs.Laws.Calls.{insert-cases, insert-refused, insert-accepted, remove-no, remove-yes, cleanup-done, query-holds}
 
 pub data Call : Type 0 where
-  toInsert : ℕ → AABB → Call
+  toInsert : Dot → Call
   toRemove : ℕ → AABB → Call
   toCleanUp : Call
   toQuery : AABB → List ℕ → Call
 
 abbrev pub callOf : Event → Call
-callOf (insert id r reply) = toInsert id r
+callOf (insert dot reply) = toInsert dot
 callOf (remove id r reply) = toRemove id r
 callOf (cleanup reply) = toCleanUp
 callOf (query q row row′ reply) = toQuery q row
@@ -43,19 +44,19 @@ abbrev Next : World → Call → Type 0
 Next w c = (e : Event) × (v : World) × (y : Shape) × Happens w e v × Holds v y × (callOf e ≡ c)
 
 module _ (w : World) (x : Shape) (h : Holds w x) where
-  next-insert : (id : ℕ) (r : AABB) → Next w (toInsert id r)
+  next-insert : (dot : Dot) → Next w (toInsert dot)
   unfolding Insert
-  next-insert id r =
+  next-insert dot =
       ⊎-elim
       (λ k.
-      let call : Insert w id r (cleared w) (refused (k .0)) = on-tree (insertRule id r) w [] x h (refuse (k .0)) (k .1) in
-      (insert id r (refused (k .0)), cleared w, x, call, insert-refused w id r (cleared w) (refused (k .0)) call x h (k .0) (k .1) .0, refl))
+      let call : Insert w dot (cleared w) (refused (k .0)) = on-tree (insertRule dot) w [] x h (refuse (k .0)) (k .1) in
+      (insert dot (refused (k .0)), cleared w, x, call, insert-refused w dot (cleared w) (refused (k .0)) call x h (k .0) (k .1) .0, refl))
       (λ g.
-      let y = inserted id r x in
-      let n = splitsFor r x in
-      let call : Insert w id r (layout y) (answered n) = on-tree (insertRule id r) w [] x h (accept y [] n) (g .3) in
-      (insert id r (answered n), layout y, y, call, insert-accepted w id r (layout y) (answered n) call x h g .0, refl))
-      (insert-cases id r x (h .valid))
+      let y = inserted dot x in
+      let n = splitsMade dot x in
+      let call : Insert w dot (layout y) (answered n) = on-tree (insertRule dot) w [] x h (accept y [] n) (g .3) in
+      (insert dot (answered n), layout y, y, call, insert-accepted w dot (layout y) (answered n) call x h g .0, refl))
+      (insert-cases dot x (h .valid))
 
   next-remove : (id : ℕ) (r : AABB) → Next w (toRemove id r)
   unfolding Remove removeRule
@@ -93,7 +94,7 @@ module _ (w : World) (x : Shape) (h : Holds w x) where
       (query q row row′ (answered l), layout x, x, call, query-holds w q row (layout x) row′ (answered l) call x h, refl))
 
   next : (c : Call) → Next w c
-  next (toInsert id r) = next-insert id r
+  next (toInsert dot) = next-insert dot
   next (toRemove id r) = next-remove id r
   next toCleanUp = next-cleanup
   next (toQuery q row) = next-query q row

@@ -15,14 +15,19 @@ use Rattle.arithmetic.specs.Linear.{and-t}
 use Rattle.geometry.specs.declared.aabb.AABB.{AABB}
 use Rattle.geometry.specs.declared.settings.Settings.{Settings}
 use Rattle.model.specs.Sums.{indicator, indicator-same, indicator-other, sumOver, sumOver-append, sumOver-one, sumBelow, sumBelow-ext, sumBelow-add, sumBelow-zero, sumBelow-only, byDec}
-use Rattle.model.specs.Lists.{byBool, true-false, upTo, count}
-use Rattle.geometry.specs.Settings.{rootOf, rootFits, between, inRange, acceptable, D}
+use Rattle.model.specs.Lists.{upTo, count}
+use Rattle.arithmetic.specs.Tests.{byBool, true-false}
+use Rattle.geometry.specs.Settings.{rootFits, between, inRange, D}
+use Rattle.model.specs.declared.Dot.{Dot}
+use Rattle.model.specs.Dots.{acceptableDot}
 use Rattle.geometry.specs.declared.node_data.NodeData.{NodeData}
 use Rattle.geometry.specs.Cells.{routeCell, mayDivide, rootData, childData, maySplit}
-use Rattle.model.specs.Trees.{Dot, Tree, leaf, branch, dots, sumDots-dots, atPlace, size, Shallow}
-use Rattle.model.specs.Shapes.{Shape, Valid, WellFormed, below, fresh, inserted, splitsFor, removed, foundBy, cleaned, headOf, tailOf, root}
-use Rattle.geometry.specs.Laws.Geometry.{levels-root, leb-true}
+use Rattle.model.specs.Trees.{Placed, Tree, leaf, branch, dots, sumDots-dots, atPlace, size, Shallow}
+use Rattle.model.specs.Shapes.{Shape, Valid, WellFormed, below, fresh, inserted, splitsNeeded, removed, foundBy, cleaned, headOf, tailOf, root, placedIn}
+use borrow.Author.Tests.{leb-true}
+use Rattle.geometry.specs.Laws.Geometry.{levels-root}
 use Rattle.model.specs.Laws.Insert.{insert-sum, insert-groups, insert-valid, valid-shallow}
+use Rattle.model.specs.Laws.Splitting.{needed-count}
 use Rattle.model.specs.Laws.Remove.{found-gone, remove-valid, remove-groups}
 use Rattle.model.specs.Laws.Cleanup.{clean-sum, clean-groups, clean-valid}
 
@@ -131,7 +136,7 @@ valid-height x v =
     valid-shallow s (in-positive s (v .settingsFit) .smallestCell) (D s) (rootData s) (x .tree) (levels-root s) (v .wellFormed)
 
 -- 'child 0 is a leaf': it could not split
-pub child-0-leaf : (s : Settings) (n : NodeData) (t : Tree) → WellFormed s (childData n 0) t → (chain : List Dot) × (t ≡ leaf chain)
+pub child-0-leaf : (s : Settings) (n : NodeData) (t : Tree) → WellFormed s (childData n 0) t → (chain : List Placed) × (t ≡ leaf chain)
 unfolding childData mayDivide
 child-0-leaf s n (leaf chain) v = (chain, refl)
 child-0-leaf s n (branch g f) v = true-false (sym (v .0))
@@ -154,12 +159,12 @@ count-head : (ps : List ℕ) → 1 ≤ length ps → (k : ℕ) → indicator k (
 count-head [] h k = absurd (omega arith)
 count-head (p ∷ ps) h k = refl
 
-pub inserted-valid : (id : ℕ) (r : AABB) (x : Shape) → Valid x → acceptable (x .settings) r ≡ true → 1 ≤ length (x .freePlaces) → splitsFor r x ≤ length (x .freeGroups)
-    → Valid (inserted id r x)
-unfolding inserted splitsFor
-inserted-valid id r x v ok room enough =
+pub inserted-valid : (dot : Dot) (x : Shape) → Valid x → acceptableDot (x .settings) dot ≡ true → 1 ≤ length (x .freePlaces) → splitsNeeded dot x ≤ length (x .freeGroups)
+    → Valid (inserted dot x)
+unfolding inserted
+inserted-valid dot x v ok room enough =
     let s = x .settings in
-    let d : Dot = record { place = headOf (x .freePlaces); id = id; rect = r } in
+    let d = placedIn dot x in
     let pos = in-positive s (v .settingsFit) in
     record {
       groupsFit = v .groupsFit;
@@ -173,7 +178,7 @@ inserted-valid id r x v ok room enough =
             insert-sum s (atPlace k) (D s) (root x) d (x .tree) (x .freeGroups) (valid-height x v),
             count-head (x .freePlaces) room k,
           );
-      wellFormed = insert-valid s (pos .smallestCell) (D s) (root x) d (x .tree) (x .freeGroups) (levels-root s) ok enough (pos .leafLimit) (v .wellFormed);
+      wellFormed = insert-valid s (pos .smallestCell) (D s) (root x) d (x .tree) (x .freeGroups) (levels-root s) ok (omega (arith, needed-count dot x)) (pos .leafLimit) (v .wellFormed);
     }
 
 pub removed-valid : (id : ℕ) (r : AABB) (x : Shape) → Valid x → foundBy id r x ≡ true → Valid (removed id r x)

@@ -10,7 +10,7 @@ use native.Mathlib.Decide.{ℕ-discrete}
 use native.Mathlib.Omega.{arith}
 use Rattle.geometry.specs.declared.node_data.NodeData.{NodeData}
 use Rattle.model.specs.Sums.{indicator, indicator-same, indicator-eq, sumOver, sumBelow, sumBelow-term, sumBelow-changed, changed, changed-same, changed-other, changed-all, byDec}
-use Rattle.model.specs.Trees.{Dot, Tree, leaf, branch, childNode, sumDots, sumGroups, atPlace, placeCount, groupCount}
+use Rattle.model.specs.Trees.{Placed, Tree, leaf, branch, childNode, sumDots, sumGroups, atPlace, placeCount, groupCount}
 use Rattle.model.specs.Layout.{none, branchMark, blank}
 use Rattle.model.specs.Memory.{Mem, Chained, Represents, FreeGroups}
 use Rattle.model.specs.Laws.Shapes.{below-le}
@@ -24,10 +24,10 @@ use Rattle.model.specs.Laws.Insert.{deal-sum}
 -- to which child a dot goes
 module _ (nd : NodeData) where
   -- one dot moves to the head of its child's chain
-  abbrev pub moveWords : Mem → ℕ → Dot → Mem
+  abbrev pub moveWords : Mem → ℕ → Placed → Mem
   moveWords m g d = let n = childNode g (routeDot nd d) in setCount (setFirst (setNext m (d .place) (m .first n)) n (d .place)) n (m .count n + 1)
 
-  abbrev pub dealWords : Mem → ℕ → List Dot → Mem
+  abbrev pub dealWords : Mem → ℕ → List Placed → Mem
   dealWords m g [] = m
   dealWords m g (d ∷ ds) = dealWords (moveWords m g d) g ds
 
@@ -35,38 +35,38 @@ module _ (nd : NodeData) where
   abbrev pub takeGroup : Mem → ℕ → ℕ → Mem
   takeGroup m b g = setFirst (setCount (setFirst m b (childNode g 0)) b branchMark) (childNode g 0) none
 
-  abbrev pub splitWords : Mem → ℕ → ℕ → List Dot → Mem
+  abbrev pub splitWords : Mem → ℕ → ℕ → List Placed → Mem
   splitWords m b g c = dealWords (takeGroup m b g) g c
 
-  abbrev pub splitTree : ℕ → List Dot → Tree
+  abbrev pub splitTree : ℕ → List Placed → Tree
   splitTree g c = branch g (λ i. leaf (deal nd (λ j. []) c i))
 
 module _ (nd : NodeData) where
   -- ---- what is left alone
 
-  move-node : (m : Mem) (g : ℕ) (d : Dot) (k : ℕ) → k ≢ childNode g (routeDot nd d) → SameNode m (moveWords nd m g d) k
+  move-node : (m : Mem) (g : ℕ) (d : Placed) (k : ℕ) → k ≢ childNode g (routeDot nd d) → SameNode m (moveWords nd m g d) k
   move-node m g d k ne = let n = childNode g (routeDot nd d) in (sym (changed-other (m .first) n (d .place) k ne), sym (changed-other (m .count) n (m .count n + 1) k ne))
 
-  move-place : (m : Mem) (g : ℕ) (d : Dot) (k : ℕ) → k ≢ d .place → SamePlace m (moveWords nd m g d) k
-  move-place m g d k ne = (refl, sym (changed-other (m .next) (d .place) (m .first (childNode g (routeDot nd d))) k ne), refl)
+  move-place : (m : Mem) (g : ℕ) (d : Placed) (k : ℕ) → k ≢ d .place → SamePlace m (moveWords nd m g d) k
+  move-place m g d k ne = (refl, sym (changed-other (m .next) (d .place) (m .first (childNode g (routeDot nd d))) k ne))
 
-  deal-node : (m : Mem) (g : ℕ) (ds : List Dot) (k : ℕ) → ((j : ℕ) → j < 5 → k ≢ childNode g j) → SameNode m (dealWords nd m g ds) k
+  deal-node : (m : Mem) (g : ℕ) (ds : List Placed) (k : ℕ) → ((j : ℕ) → j < 5 → k ≢ childNode g j) → SameNode m (dealWords nd m g ds) k
   deal-node m g [] k ne = (refl, refl)
   deal-node m g (d ∷ ds) k ne =
-      let a = move-node m g d k (ne (routeDot nd d) (route-child nd (d .rect))) in
+      let a = move-node m g d k (ne (routeDot nd d) (route-child nd (d .dot .rect))) in
       let b = deal-node (moveWords nd m g d) g ds k ne in
       (a .0 ∙ b .0, a .1 ∙ b .1)
 
-  deal-place : (m : Mem) (g : ℕ) (ds : List Dot) (k : ℕ) → sumOver (atPlace k) ds ≡ 0 → SamePlace m (dealWords nd m g ds) k
-  deal-place m g [] k z = (refl, refl, refl)
+  deal-place : (m : Mem) (g : ℕ) (ds : List Placed) (k : ℕ) → sumOver (atPlace k) ds ≡ 0 → SamePlace m (dealWords nd m g ds) k
+  deal-place m g [] k z = (refl, refl)
   deal-place m g (d ∷ ds) k z =
       let a = move-place m g d k (λ e. omega (arith, ap (λ (y : ℕ). indicator y (d .place)) e, indicator-same (d .place))) in
       let b = deal-place (moveWords nd m g d) g ds k (omega arith) in
-      (a .0 ∙ b .0, a .1 ∙ b .1, a .2 ∙ b .2)
+      (a .0 ∙ b .0, a .1 ∙ b .1)
 
   -- ---- the children
 
-  pub deal-children : (m : Mem) (g : ℕ) (acc : ℕ → List Dot) (h : ℕ) (ds : List Dot) → Chained m h ds none
+  pub deal-children : (m : Mem) (g : ℕ) (acc : ℕ → List Placed) (h : ℕ) (ds : List Placed) → Chained m h ds none
       → ((k : ℕ) → sumOver (atPlace k) ds + sumBelow 5 (λ j. sumOver (atPlace k) (acc j)) ≤ 1)
       → ((j : ℕ) → j < 5 → Represents m (childNode g j) (leaf (acc j)))
       → (j : ℕ) → j < 5 → Represents (dealWords nd m g ds) (childNode g j) (leaf (deal nd acc ds j))
@@ -75,19 +75,19 @@ module _ (nd : NodeData) where
       let w = moveWords nd m g d in
       let p = d .place in
       let q = routeDot nd d in
-      let qb = route-child nd (d .rect) in
+      let qb = route-child nd (d .dot .rect) in
       let A : ℕ → ℕ → ℕ = λ k j. sumOver (atPlace k) (acc j) in
       let notin : (j k : ℕ) → j < 5 → 1 ≤ sumOver (atPlace k) (acc j) → k ≢ p =
       λ j k jb c e. omega (arith, o p, indicator-same p, ap (λ (y : ℕ). A y j) e, sumBelow-term 5 (A p) j jb) in
       deal-children w g (changed acc q (d ∷ acc q)) (m .next p) ds
-      (chain-frame m w (m .next p) ds none (λ k c. move-place m g d k (λ e. omega (arith, o p, indicator-same p, ap (λ (y : ℕ). sumOver (atPlace y) ds) e))) (s .3))
+      (chain-frame m w (m .next p) ds none (λ k c. move-place m g d k (λ e. omega (arith, o p, indicator-same p, ap (λ (y : ℕ). sumOver (atPlace y) ds) e))) (s .2))
       (λ k. omega (arith, o k, sumBelow-changed 5 (λ j x. sumOver (atPlace k) x) acc q (d ∷ acc q) qb))
       (λ j jb.
-      changed-all (λ (j : ℕ) (x : List Dot). Represents w (childNode g j) (leaf x)) acc q (d ∷ acc q) j
+      changed-all (λ (j : ℕ) (x : List Placed). Represents w (childNode g j) (leaf x)) acc q (d ∷ acc q) j
       (λ e. subst (λ (y : ℕ). Represents w (childNode g y) (leaf (d ∷ acc q))) (sym e) (
         changed-same (m .count) (childNode g q) (m .count (childNode g q) + 1) ∙ omega (arith, r q qb .0),
         subst (λ (n : ℕ). Chained w n (d ∷ acc q) none) (sym (changed-same (m .first) (childNode g q) p))
-            (chain-push m w (m .first (childNode g q)) d (acc q) none (λ k c. move-place m g d k (notin q k qb c)) (s .1) (s .2) (changed-same (m .next) p (m .first (childNode g q))) (r q qb .1)),
+            (chain-push m w (m .first (childNode g q)) d (acc q) none (λ k c. move-place m g d k (notin q k qb c)) (s .1) (changed-same (m .next) p (m .first (childNode g q))) (r q qb .1)),
       ))
       (λ ne.
       tree-frame m w (childNode g j) (leaf (acc j))
@@ -103,13 +103,13 @@ module _ (nd : NodeData) where
     sym (changed-other (m .count) b branchMark k ne),
   )
 
-  split-node : (m : Mem) (b g : ℕ) (c : List Dot) (k : ℕ) → k ≢ b → ((j : ℕ) → j < 5 → k ≢ childNode g j) → SameNode m (splitWords nd m b g c) k
+  split-node : (m : Mem) (b g : ℕ) (c : List Placed) (k : ℕ) → k ≢ b → ((j : ℕ) → j < 5 → k ≢ childNode g j) → SameNode m (splitWords nd m b g c) k
   split-node m b g c k ne nk =
       let x = take-node m b g k ne (nk 0 (omega arith)) in
       let y = deal-node (takeGroup nd m b g) g c k nk in
       (x .0 ∙ y .0, x .1 ∙ y .1)
 
-  pub split-leaf : (m : Mem) (b g h : ℕ) (gs : List ℕ) (c : List Dot) → ((j : ℕ) → j < 5 → b ≢ childNode g j) → ((k : ℕ) → sumOver (atPlace k) c ≤ 1)
+  pub split-leaf : (m : Mem) (b g h : ℕ) (gs : List ℕ) (c : List Placed) → ((j : ℕ) → j < 5 → b ≢ childNode g j) → ((k : ℕ) → sumOver (atPlace k) c ≤ 1)
       → FreeGroups m h (g ∷ gs) → Represents m b (leaf c) → Represents (splitWords nd m b g c) b (splitTree nd g c)
   split-leaf m b g h gs c nb o fr r =
       let w = takeGroup nd m b g in
@@ -117,7 +117,7 @@ module _ (nd : NodeData) where
         sym (s .1) ∙ changed-same (m .count) b branchMark,
         sym (s .0) ∙ changed-other (changed (m .first) b (childNode g 0)) (childNode g 0) none b (nb 0 (omega arith)) ∙ changed-same (m .first) b (childNode g 0) ∙ omega arith,
         deal-children w g (λ j. []) (m .first b) c
-            (chain-frame m w (m .first b) c none (λ k z. (refl, refl, refl)) (r .1))
+            (chain-frame m w (m .first b) c none (λ k z. (refl, refl)) (r .1))
             (λ k. omega (arith, o k))
             (λ j jb.
             byDec (ℕ-discrete j 0)
@@ -131,7 +131,7 @@ module _ (nd : NodeData) where
             (sym (v .1) ∙ z .1, sym (v .0) ∙ z .0))),
       )
 
-  pub split-holds : (G N : ℕ) (m : Mem) (groupHead placeHead : ℕ) (t : Tree) (g : ℕ) (free spare : List ℕ) (path : List ℕ) (c : List Dot) → Children path → sub t path ≡ leaf c
+  pub split-holds : (G N : ℕ) (m : Mem) (groupHead placeHead : ℕ) (t : Tree) (g : ℕ) (free spare : List ℕ) (path : List ℕ) (c : List Placed) → Children path → sub t path ≡ leaf c
       → Stored G N m groupHead placeHead t (g ∷ free) spare
       → Stored G N (splitWords nd m (nodeAt 0 t path) g c) (m .first (childNode g 0)) placeHead (put t path (splitTree nd g c)) free spare
   split-holds G N m groupHead placeHead t g free spare path c children e H =

@@ -1,5 +1,5 @@
 -- The whole memory as functions: a tree, the free groups, the free places, each number once.
---     setFirst .. setRect  single stores
+--     setFirst .. setNext  single stores
 --     Stored       what the memory holds
 --     pushWords, push-holds        the push of a dot on a leaf
 use mathlib.Core.Path.{_≡_, refl, ap, sym, _∙_, subst}
@@ -8,9 +8,9 @@ use mathlib.Core.List.{List, [], _∷_, map}
 use Prim.Native.Nat.{ℕ, _+_, _-_, _/_, _%_, _≤_, _<_}
 use native.Mathlib.Decide.{ℕ-discrete}
 use native.Mathlib.Omega.{arith}
-use Rattle.geometry.specs.declared.aabb.AABB.{AABB}
+use Rattle.model.specs.declared.Dot.{Dot}
 use Rattle.model.specs.Sums.{indicator, indicator-same, indicator-other, indicator-le, sumOver, sumBelow-zero, changed, changed-same, changed-other, byDec}
-use Rattle.model.specs.Trees.{Dot, Tree, leaf, branch, childNode, sumDots, sumGroups, atPlace, placeCount, groupCount}
+use Rattle.model.specs.Trees.{Placed, Tree, leaf, branch, childNode, sumDots, sumGroups, atPlace, placeCount, groupCount}
 use Rattle.model.specs.Shapes.{below}
 use Rattle.model.specs.Layout.{none, blank}
 use Rattle.model.specs.Memory.{Mem, Chained, Represents, FreeGroups}
@@ -21,19 +21,16 @@ use Rattle.model.specs.Laws.Paths.{Children, sub, nodeAt, put, sumDots-p
 -- ---- single stores
 
 abbrev pub setFirst : Mem → ℕ → ℕ → Mem
-setFirst m a v = record { first = changed (m .first) a v; count = m .count; id = m .id; next = m .next; rect = m .rect }
+setFirst m a v = record { first = changed (m .first) a v; count = m .count; dot = m .dot; next = m .next }
 
 abbrev pub setCount : Mem → ℕ → ℕ → Mem
-setCount m a v = record { first = m .first; count = changed (m .count) a v; id = m .id; next = m .next; rect = m .rect }
+setCount m a v = record { first = m .first; count = changed (m .count) a v; dot = m .dot; next = m .next }
 
-abbrev pub setId : Mem → ℕ → ℕ → Mem
-setId m a v = record { first = m .first; count = m .count; id = changed (m .id) a v; next = m .next; rect = m .rect }
+abbrev pub setDot : Mem → ℕ → Dot → Mem
+setDot m p d = record { first = m .first; count = m .count; dot = changed (m .dot) p d; next = m .next }
 
 abbrev pub setNext : Mem → ℕ → ℕ → Mem
-setNext m a v = record { first = m .first; count = m .count; id = m .id; next = changed (m .next) a v; rect = m .rect }
-
-abbrev pub setRect : Mem → ℕ → AABB → Mem
-setRect m a v = record { first = m .first; count = m .count; id = m .id; next = m .next; rect = changed (m .rect) a v }
+setNext m p v = record { first = m .first; count = m .count; dot = m .dot; next = changed (m .next) p v }
 
 pub free-frame : (m w : Mem) (h : ℕ) (gs : List ℕ) → ((g i : ℕ) → 1 ≤ sumOver (indicator g) gs → i < 5 → SameNode m w (childNode g i)) → FreeGroups m h gs → FreeGroups w h gs
 free-frame m w h [] s r = r
@@ -81,21 +78,21 @@ node-not-free t b g i l z c e =
 -- ---- push
 
 -- node b is a leaf; d's place is the head of the free places
-pub pushWords : Mem → ℕ → Dot → Mem
+pub pushWords : Mem → ℕ → Placed → Mem
 pushWords m b d =
     let p = d .place in
-    setCount (setFirst (setNext (setRect (setId m p (d .id)) p (d .rect)) p (m .first b)) b p) b (m .count b + 1)
+    setCount (setFirst (setNext (setDot m p (d .dot)) p (m .first b)) b p) b (m .count b + 1)
 
-push-node : (m : Mem) (b : ℕ) (d : Dot) (k : ℕ) → k ≢ b → SameNode m (pushWords m b d) k
+push-node : (m : Mem) (b : ℕ) (d : Placed) (k : ℕ) → k ≢ b → SameNode m (pushWords m b d) k
 unfolding pushWords
 push-node m b d k ne = (sym (changed-other (m .first) b (d .place) k ne), sym (changed-other (m .count) b (m .count b + 1) k ne))
 
-push-place : (m : Mem) (b : ℕ) (d : Dot) (k : ℕ) → k ≢ d .place → SamePlace m (pushWords m b d) k
+push-place : (m : Mem) (b : ℕ) (d : Placed) (k : ℕ) → k ≢ d .place → SamePlace m (pushWords m b d) k
 unfolding pushWords
 push-place m b d k ne =
-    (sym (changed-other (m .id) (d .place) (d .id) k ne), sym (changed-other (m .next) (d .place) (m .first b) k ne), sym (changed-other (m .rect) (d .place) (d .rect) k ne))
+    (sym (changed-other (m .dot) (d .place) (d .dot) k ne), sym (changed-other (m .next) (d .place) (m .first b) k ne))
 
-push-leaf : (m : Mem) (b : ℕ) (d : Dot) (c : List Dot) → sumOver (atPlace (d .place)) c ≡ 0 → Represents m b (leaf c) → Represents (pushWords m b d) b (leaf (d ∷ c))
+push-leaf : (m : Mem) (b : ℕ) (d : Placed) (c : List Placed) → sumOver (atPlace (d .place)) c ≡ 0 → Represents m b (leaf c) → Represents (pushWords m b d) b (leaf (d ∷ c))
 unfolding pushWords
 push-leaf m b d c z r =
     let w = pushWords m b d in (
@@ -103,10 +100,10 @@ push-leaf m b d c z r =
       subst (λ (n : ℕ). Chained w n (d ∷ c) none) (sym (changed-same (m .first) b (d .place)))
           (chain-push m w (m .first b) d c none
           (λ k h. push-place m b d k (λ e. omega (arith, subst (λ (y : ℕ). 1 ≤ sumOver (atPlace y) c) e h)))
-          (changed-same (m .id) (d .place) (d .id)) (changed-same (m .rect) (d .place) (d .rect)) (changed-same (m .next) (d .place) (m .first b)) (r .1)),
+          (changed-same (m .dot) (d .place) (d .dot)) (changed-same (m .next) (d .place) (m .first b)) (r .1)),
     )
 
-pub push-holds : (G N : ℕ) (m : Mem) (groupHead placeHead : ℕ) (t : Tree) (free spare : List ℕ) (path : List ℕ) (c : List Dot) (d : Dot) → Children path → sub t path ≡ leaf c
+pub push-holds : (G N : ℕ) (m : Mem) (groupHead placeHead : ℕ) (t : Tree) (free spare : List ℕ) (path : List ℕ) (c : List Placed) (d : Placed) → Children path → sub t path ≡ leaf c
     → Stored G N m groupHead placeHead t free (d .place ∷ spare)
     → Stored G N (pushWords m (nodeAt 0 t path) d) groupHead (m .next (d .place)) (put t path (leaf (d ∷ c))) free spare
 push-holds G N m groupHead placeHead t free spare path c d children e H =
@@ -132,7 +129,7 @@ push-holds G N m groupHead placeHead t free spare path c d children e H =
           (λ g i h l. push-node m b d (childNode g i) (λ x. node-not-free t b g i l (omega (arith, H .groupsOnce g, below-le g G)) inN (sym x)))
           (H .groups);
       places =
-          chain-frame m w (m .next p) (map blank spare) none (λ k h. push-place m b d k (λ x. omega (arith, ap (λ (y : ℕ). sumOver (atPlace y) (map blank spare)) x))) (H .places .3);
+          chain-frame m w (m .next p) (map blank spare) none (λ k h. push-place m b d k (λ x. omega (arith, ap (λ (y : ℕ). sumOver (atPlace y) (map blank spare)) x))) (H .places .2);
       groupsOnce = λ k. omega (arith, H .groupsOnce k, sumGroups-put (indicator k) t path (leaf (d ∷ c)) children, ap (sumGroups (indicator k)) e);
       placesOnce = λ k. omega (arith, H .placesOnce k, sumDots-put (atPlace k) t path (leaf (d ∷ c)) children, ap (sumDots (atPlace k)) e);
     }
