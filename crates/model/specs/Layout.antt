@@ -26,6 +26,9 @@ pub record World : Type 0 where
   pub rects : List ℤ
   pub marks : List ℕ
 
+abbrev pub world : State → List ℕ → List ℕ → List ℤ → List ℕ → World
+world s nodes dots rects marks = record { state = s; nodes = nodes; dots = dots; rects = rects; marks = marks }
+
 -- ---- lengths
 
 -- G and N, read off the lengths

@@ -5,11 +5,13 @@
 use mathlib.Core.Path.{_≡_, refl, ap, sym, _∙_, subst, subst₂}
 use mathlib.Core.List.{List, [], _∷_, _++_, map}
 use Prim.Native.Nat.{ℕ, zero, suc, _+_, _*_, _-_, _/_, _%_, _≤_, _<_}
+use native.Mathlib.Nat.{mul-comm, mod-lt, div-add-mod, div-lt-iff-lt-mul}
 use native.Mathlib.Decide.{ℕ-discrete}
 use native.Mathlib.Omega.{arith}
 use lib.IntN.{ℤ, pos}
 use lib.ListN.{length, getD, replicate}
 use lib.Seq.{ext-getD}
+use Rattle.geometry.specs.declared.aabb.AABB.{AABB}
 use Rattle.model.specs.declared.Dot.{Dot}
 use Rattle.model.specs.declared.State.{State}
 use Rattle.model.specs.Sums.{sumOver, byDec}
@@ -19,7 +21,7 @@ use Rattle.model.specs.Shapes.{Shape, Valid}
 use Rattle.model.specs.Layout.{World, none, firstNode, firstDot, NodeEntry, PlaceEntry, treeNodes, freeGroupNodes, chainPlaces, treePlaces, blank, nodeEntries, placeEntries, nodeWords, placeWords, dotWords, rectWords, placeRect, stateOf, layout, cleared, Holds}
 use Rattle.model.specs.Laws.Shapes.{below-le}
 use Rattle.model.specs.Laws.Layout.{two-node, two-dot, four-rect, layout-lengths, holds-all}
-use Rattle.model.specs.Memory.{Mem, idAt, dotAt, memory, Chained, Represents, FreeGroups, Represented}
+use Rattle.model.specs.Memory.{Mem, firstAt, countAt, idAt, nextAt, rectAt, dotAt, memory, Chained, Represents, FreeGroups, Represented}
 use Rattle.model.specs.Laws.Entries.{getD-joinBelow, nodeIs, placeIs, each-found, finds, nodes-once, places-at, node-range, node-there, place-range, place-there}
 
 -- ---- lists of which all have a property
@@ -118,6 +120,7 @@ of-free m h (g ∷ gs) r =
 -- a dot by its words
 dot-words : (w : World) (p : ℕ) (d : Dot) → ((j : ℕ) → j < 4 → getD (w .rects) (4 * p + j) (pos 0) ≡ getD (rectWords (d .rect)) j (pos 0)) → idAt (w .dots) p ≡ d .id
     → dotAt (w .dots) (w .rects) p ≡ d
+unfolding idAt rectAt
 dot-words w p d r id =
     let x1 = r 0 (omega arith) in
     let y1 = r 1 (omega arith) in
@@ -127,7 +130,7 @@ dot-words w p d r id =
 
 module _ (x : Shape) (v : Valid x) where
   layout-nodes : All (NodeStands (memory (layout x))) (nodeEntries x)
-  unfolding layout
+  unfolding layout firstAt countAt
   layout-nodes =
       let es = nodeEntries x in
       let row = joinBelow (1 + 5 * x .groups) (nodeWords es) in
@@ -143,7 +146,7 @@ module _ (x : Shape) (v : Valid x) where
   places-once k = omega (arith, places-at x v k, below-le k (x .places))
 
   layout-places : All (PlaceStands (memory (layout x))) (placeEntries x)
-  unfolding layout
+  unfolding layout idAt nextAt
   layout-places =
       let es = placeEntries x in
       let n = x .places in
@@ -205,50 +208,34 @@ holds-represented w x h =
 
 -- ---- the relation fixes every word
 
--- rows of pairs and of fours are equal by their words
-pairs-equal : (n : ℕ) (row : List ℕ) (f : ℕ → List ℕ) → length row ≡ 2 * n → ((k : ℕ) → length (f k) ≡ 2)
-    → ((k : ℕ) → k < n → f k ≡ getD row (2 * k + 0) 0 ∷ getD row (2 * k + 1) 0 ∷ []) → row ≡ joinBelow n f
-pairs-equal n row f l e at =
-    ext-getD 0 row (joinBelow n f) (omega (arith, l, length-joinBelow n 2 f e))
+-- a row that is joined from short rows of m words each, by its words
+blocks-equal : {A : Type 0} (z : A) (m n : ℕ) (row : List A) (f : ℕ → List A) → 1 ≤ m → length row ≡ m * n → ((k : ℕ) → length (f k) ≡ m)
+    → ((k : ℕ) → k < n → (j : ℕ) → j < m → getD row (m * k + j) z ≡ getD (f k) j z) → row ≡ joinBelow n f
+blocks-equal z m n row f one l e at =
+    ext-getD z row (joinBelow n f) (l ∙ mul-comm m n ∙ sym (length-joinBelow n m f e))
     (λ i b.
-    let k : ℕ = i / 2 in
-    let j : ℕ = i % 2 in
-    let same : 2 * k + j ≡ i = omega arith in
-    let kn : k < n = omega (arith, l) in
-    let word : (j : ℕ) → j < 2 → getD row (2 * k + j) 0 ≡ getD (joinBelow n f) (2 * k + j) 0 =
-    λ j jb. small j jb k ∙ sym (getD-joinBelow 2 n f e k j 0 kn jb ∙ ap (λ (r : List ℕ). getD r j 0) (at k kn)) in
-    subst (λ (y : ℕ). getD row y 0 ≡ getD (joinBelow n f) y 0) same (word j (omega arith)))
-  where
-    small : (j : ℕ) → j < 2 → (k : ℕ) → getD row (2 * k + j) 0 ≡ getD (getD row (2 * k + 0) 0 ∷ getD row (2 * k + 1) 0 ∷ []) j 0
-    small zero b k = refl
-    small (suc zero) b k = refl
-    small (suc (suc j)) b k = absurd (omega arith)
+    let k : ℕ = i / m in
+    let j : ℕ = i % m in
+    let kn : k < n = div-lt-iff-lt-mul one .1 (omega (arith, l, mul-comm n m)) in
+    let jm : j < m = mod-lt i one in
+    let same : m * k + j ≡ i = div-add-mod i m in
+    subst (λ (y : ℕ). getD row y z ≡ getD (joinBelow n f) y z) same (at k kn j jm ∙ sym (getD-joinBelow m n f e k j z kn jm)))
 
-fours-equal : (n : ℕ) (row : List ℤ) (f : ℕ → List ℤ) → length row ≡ 4 * n → ((k : ℕ) → length (f k) ≡ 4)
-    → ((k : ℕ) → k < n → f k ≡ getD row (4 * k + 0) (pos 0) ∷ getD row (4 * k + 1) (pos 0) ∷ getD row (4 * k + 2) (pos 0) ∷ getD row (4 * k + 3) (pos 0) ∷ [])
-    → row ≡ joinBelow n f
-fours-equal n row f l e at =
-    ext-getD (pos 0) row (joinBelow n f) (omega (arith, l, length-joinBelow n 4 f e))
-    (λ i b.
-    let k : ℕ = i / 4 in
-    let j : ℕ = i % 4 in
-    let same : 4 * k + j ≡ i = omega arith in
-    let kn : k < n = omega (arith, l) in
-    let word : (j : ℕ) → j < 4 → getD row (4 * k + j) (pos 0) ≡ getD (joinBelow n f) (4 * k + j) (pos 0) =
-    λ j jb. small j jb k ∙ sym (getD-joinBelow 4 n f e k j (pos 0) kn jb ∙ ap (λ (r : List ℤ). getD r j (pos 0)) (at k kn)) in
-    subst (λ (y : ℕ). getD row y (pos 0) ≡ getD (joinBelow n f) y (pos 0)) same (word j (omega arith)))
-  where
-    small : (j : ℕ) → j < 4 → (k : ℕ) → getD row (4 * k + j) (pos 0)
-        ≡ getD (getD row (4 * k + 0) (pos 0) ∷ getD row (4 * k + 1) (pos 0) ∷ getD row (4 * k + 2) (pos 0) ∷ getD row (4 * k + 3) (pos 0) ∷ []) j (pos 0)
-    small zero b k = refl
-    small (suc zero) b k = refl
-    small (suc (suc zero)) b k = refl
-    small (suc (suc (suc zero))) b k = refl
-    small (suc (suc (suc (suc j)))) b k = absurd (omega arith)
+pair-word : (a b : ℕ) (at : ℕ → ℕ) → at 0 ≡ a → at 1 ≡ b → (j : ℕ) → j < 2 → at j ≡ getD (a ∷ b ∷ []) j 0
+pair-word a b at p q zero h = p
+pair-word a b at p q (suc zero) h = q
+pair-word a b at p q (suc (suc j)) h = absurd (omega arith)
+
+corner-word : (r : AABB) (at : ℕ → ℤ) → at 0 ≡ r .x1 → at 1 ≡ r .y1 → at 2 ≡ r .x2 → at 3 ≡ r .y2 → (j : ℕ) → j < 4 → at j ≡ getD (rectWords r) j (pos 0)
+corner-word r at p q s t zero h = p
+corner-word r at p q s t (suc zero) h = q
+corner-word r at p q s t (suc (suc zero)) h = s
+corner-word r at p q s t (suc (suc (suc zero))) h = t
+corner-word r at p q s t (suc (suc (suc (suc j)))) h = absurd (omega arith)
 
 -- A world that, read word by word, has the valid shape x, holds x: its words are the layout's.
 pub represented-holds : (w : World) (x : Shape) → Valid x → Represented w x → Holds w x
-unfolding cleared layout stateOf
+unfolding cleared layout stateOf firstAt countAt idAt nextAt rectAt
 represented-holds w x v r =
     let m = memory w in
     let t = of-tree m 0 (x .tree) (r .tree) in
@@ -261,14 +248,20 @@ represented-holds w x v r =
     let ds = all-map (PlaceStands m) (λ e. placeWords (m .dot (e .place)) (m .next (e .place)) ≡ placeWords (e .dot) (e .next)) (λ e p. two _ _ _ _ (ap (λ (d : Dot). d .id) (p .0)) (p .1)) fs ps in
     let rs = all-map (PlaceStands m) (λ e. rectWords (m .dot (e .place) .rect) ≡ rectWords (e .dot .rect)) (λ e p. ap (λ (d : Dot). rectWords (d .rect)) (p .0)) fs ps in
     let nodes : w .nodes ≡ joinBelow (1 + 5 * x .groups) (nodeWords es) =
-    pairs-equal (1 + 5 * x .groups) (w .nodes) (nodeWords es) (omega (arith, r .nodes)) (two-node es)
-    (λ k b. finds (λ e. e .node) (λ e. e .first ∷ e .count ∷ []) nodeWords (λ e es k. refl) (λ k. m .first k ∷ m .count k ∷ []) es ns k (node-there x v k b)) in
+    blocks-equal 0 2 (1 + 5 * x .groups) (w .nodes) (nodeWords es) (omega arith) (omega (arith, r .nodes)) (two-node es)
+    (λ k b j jb.
+    pair-word (m .first k) (m .count k) (λ j. getD (w .nodes) (2 * k + j) 0) refl refl j jb
+    ∙ sym (ap (λ (l : List ℕ). getD l j 0) (finds (λ e. e .node) (λ e. e .first ∷ e .count ∷ []) nodeWords (λ e es k. refl) (λ k. m .first k ∷ m .count k ∷ []) es ns k (node-there x v k b)))) in
     let dots : w .dots ≡ joinBelow (x .places) (dotWords fs) =
-    pairs-equal (x .places) (w .dots) (dotWords fs) (r .dots) (two-dot fs)
-    (λ k b. finds (λ e. e .place) (λ e. placeWords (e .dot) (e .next)) dotWords (λ e es k. refl) (λ k. placeWords (m .dot k) (m .next k)) fs ds k (place-there x v k b)) in
+    blocks-equal 0 2 (x .places) (w .dots) (dotWords fs) (omega arith) (r .dots) (two-dot fs)
+    (λ k b j jb.
+    pair-word (m .dot k .id) (m .next k) (λ j. getD (w .dots) (2 * k + j) 0) refl refl j jb
+    ∙ sym (ap (λ (l : List ℕ). getD l j 0) (finds (λ e. e .place) (λ e. placeWords (e .dot) (e .next)) dotWords (λ e es k. refl) (λ k. placeWords (m .dot k) (m .next k)) fs ds k (place-there x v k b)))) in
     let rects : w .rects ≡ joinBelow (x .places) (placeRect fs) =
-    fours-equal (x .places) (w .rects) (placeRect fs) (r .rects) (four-rect fs)
-    (λ k b. finds (λ e. e .place) (λ e. rectWords (e .dot .rect)) placeRect (λ e es k. refl) (λ k. rectWords (m .dot k .rect)) fs rs k (place-there x v k b)) in
+    blocks-equal (pos 0) 4 (x .places) (w .rects) (placeRect fs) (omega arith) (r .rects) (four-rect fs)
+    (λ k b j jb.
+    corner-word (m .dot k .rect) (λ j. getD (w .rects) (4 * k + j) (pos 0)) refl refl refl refl j jb
+    ∙ sym (ap (λ (l : List ℤ). getD l j (pos 0)) (finds (λ e. e .place) (λ e. rectWords (e .dot .rect)) placeRect (λ e es k. refl) (λ k. rectWords (m .dot k .rect)) fs rs k (place-there x v k b)))) in
     let marks : replicate {A = ℕ} (length (w .marks)) 0 ≡ replicate (x .places + x .groups) 0 = ap (λ (n : ℕ). replicate {A = ℕ} n 0) (r .marks) in
     let settings = r .settings in
     let live = r .live in
