@@ -8,10 +8,10 @@ use mathlib.Core.List.{List, [], _∷_}
 use Prim.Native.Nat.{ℕ, _+_, _-_, _≤_, _<_}
 use native.Mathlib.Decide.{ℕ-discrete}
 use native.Mathlib.Omega.{arith}
 use Rattle.model.specs.Sums.{indicator, indicator-same, indicator-other, sumBelow, sumBelow-ext, sumBelow-add, sumBelow-term, sumBelow-two, sumBelow-zero, sumBelow-only, sumBelow-changed, changed, changed-all, byDec}
 use Rattle.model.specs.Trees.{Placed, Tree, leaf, branch, childNode, sumDots, sumGroups, atPlace, placeCount, groupCount}
 use Rattle.model.specs.Memory.{Mem, Represents}
-use Rattle.model.specs.Laws.Frames.{sumNodes, nodeCount, SamePlace, SameNode, tree-frame}
+use Rattle.tree.specs.Frames.{sumNodes, nodeCount, SamePlace, SameNode, tree-frame}
 
 -- each step of the path is a child's number
 abbrev pub Children : List ℕ → Type 0

@@ -9,17 +9,17 @@ use Prim.Native.Nat.{ℕ, _+_, _-_, _≤_, _<_}
 use native.Mathlib.Decide.{ℕ-discrete}
 use native.Mathlib.Omega.{arith}
 use Rattle.geometry.specs.declared.node_data.NodeData.{NodeData}
 use Rattle.model.specs.Sums.{indicator, indicator-same, indicator-eq, sumOver, sumBelow, sumBelow-term, sumBelow-changed, changed, changed-same, changed-other, changed-all, byDec}
 use Rattle.model.specs.Trees.{Placed, Tree, leaf, branch, childNode, sumDots, sumGroups, atPlace, placeCount, groupCount}
 use Rattle.model.specs.Layout.{none, branchMark, blank}
 use Rattle.model.specs.Memory.{Mem, Chained, Represents, FreeGroups}
 use Rattle.model.specs.Laws.Shapes.{below-le}
-use Rattle.model.specs.Laws.Frames.{sumNodes, nodeCount, SamePlace, SameNode, chain-frame, chain-push, tree-frame}
-use Rattle.model.specs.Laws.Paths.{Children, sub, nodeAt, put, sumDots-put, sumGroups-put, sumDots-sub, sumNodes-sub, tree-sub, tree-put}
-use Rattle.model.specs.Laws.Stores.{setFirst, setCount, setNext, free-frame, Stored, nodes-once, node-not-free}
+use Rattle.tree.specs.Frames.{sumNodes, nodeCount, SamePlace, SameNode, chain-frame, chain-push, tree-frame}
+use Rattle.tree.specs.Paths.{Children, sub, nodeAt, put, sumDots-put, sumGroups-put, sumDots-sub, sumNodes-sub, tree-sub, tree-put}
+use Rattle.tree.specs.Stores.{setFirst, setCount, setNext, free-frame, Stored, nodes-once, node-not-free}
 use Rattle.model.specs.Insert.{routeDot, deal}
 use Rattle.geometry.specs.Laws.Geometry.{route-child}
 use Rattle.model.specs.Laws.Insert.{deal-sum}
 
 -- to which child a dot goes
 module _ (nd : NodeData) where

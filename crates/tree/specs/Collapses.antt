@@ -10,15 +10,15 @@ use Prim.Native.Nat.{ℕ, zero, suc, _+_, _-_, _≤_, _<_}
 use native.Mathlib.Nat.{not-suc-le-zero, le-refl}
 use native.Mathlib.Decide.{ℕ-discrete}
 use native.Mathlib.Omega.{arith}
 use Rattle.model.specs.Sums.{indicator, indicator-same, indicator-other, sumOver, sumBelow, sumBelow-ext, sumBelow-term, changed, changed-same, changed-other, byDec}
 use Rattle.arithmetic.specs.Tests.{byBool}
 use Rattle.model.specs.Trees.{Tree, leaf, branch, childNode}
 use Rattle.model.specs.Layout.{none}
 use Rattle.model.specs.Memory.{Mem, Represents, FreeGroups}
-use Rattle.model.specs.Laws.Frames.{sumNodes, nodeCount, SamePlace, SameNode, tree-frame}
-use Rattle.model.specs.Laws.Stores.{setFirst, setCount, free-frame}
+use Rattle.tree.specs.Frames.{sumNodes, nodeCount, SamePlace, SameNode, tree-frame}
+use Rattle.tree.specs.Stores.{setFirst, setCount, free-frame}
 use Rattle.model.specs.Cleanup.{busy, allEmpty, cleanTree, downFrom, freedBy}
 use Rattle.model.specs.Laws.Cleanup.{zero-is, children-empty}
 
 -- the nodes of a group
 abbrev pub overGroup : (ℕ → ℕ) → ℕ → ℕ

@@ -10,18 +10,18 @@ use native.Mathlib.Decide.{ℕ-discrete}
 use native.Mathlib.Omega.{arith}
 use lib.ListN.{length}
 use Rattle.geometry.specs.declared.node_data.NodeData.{NodeData}
 use Rattle.model.specs.Sums.{changed, changed-same, changed-other, byDec}
 use Rattle.arithmetic.specs.Tests.{byBool}
 use Rattle.model.specs.Trees.{Placed, Tree, leaf, branch, childNode, Shallow}
 use Rattle.model.specs.Memory.{Mem}
-use Rattle.model.specs.Laws.Paths.{Children, sub, nodeAt, put}
-use Rattle.model.specs.Laws.Stores.{pushWords, push-holds, Stored}
+use Rattle.tree.specs.Paths.{Children, sub, nodeAt, put}
+use Rattle.tree.specs.Stores.{pushWords, push-holds, Stored}
 use Rattle.geometry.specs.declared.settings.Settings.{Settings}
 use Rattle.geometry.specs.Cells.{routeCell, mayDivide, childData}
 use Rattle.model.specs.Insert.{routeDot, dealt, Grown, mustSplit, insertAt}
 use Rattle.geometry.specs.Laws.Geometry.{route-child}
 use Rattle.model.specs.Laws.Insert.{splitCount}
-use Rattle.model.specs.Laws.Splits.{splitTree, splitWords, split-holds}
+use Rattle.tree.specs.Splits.{splitTree, splitWords, split-holds}
 
 -- ---- a path one step longer; a subtree that was put
 

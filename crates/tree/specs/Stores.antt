@@ -8,15 +8,15 @@ use mathlib.Core.List.{List, [], _∷_, map}
 use Prim.Native.Nat.{ℕ, _+_, _-_, _/_, _%_, _≤_, _<_}
 use native.Mathlib.Decide.{ℕ-discrete}
 use native.Mathlib.Omega.{arith}
 use Rattle.model.specs.declared.Dot.{Dot}
 use Rattle.model.specs.Sums.{indicator, indicator-same, indicator-other, indicator-le, sumOver, sumBelow-zero, changed, changed-same, changed-other, byDec}
 use Rattle.model.specs.Trees.{Placed, Tree, leaf, branch, childNode, sumDots, sumGroups, atPlace, placeCount, groupCount}
 use Rattle.model.specs.Shapes.{below}
 use Rattle.model.specs.Layout.{none, blank}
 use Rattle.model.specs.Memory.{Mem, Chained, Represents, FreeGroups}
 use Rattle.model.specs.Laws.Shapes.{below-le}
-use Rattle.model.specs.Laws.Frames.{sumNodes, nodeCount, SamePlace, SameNode, chain-frame, chain-push}
-use Rattle.model.specs.Laws.Paths.{Children, sub, nodeAt, put, sumDots-put, sumGroups-put, sumDots-sub, sumNodes-sub, tree-sub, tree-put, nodes-groups}
+use Rattle.tree.specs.Frames.{sumNodes, nodeCount, SamePlace, SameNode, chain-frame, chain-push}
+use Rattle.tree.specs.Paths.{Children, sub, nodeAt, put, sumDots-put, sumGroups-put, sumDots-sub, sumNodes-sub, tree-sub, tree-put, nodes-groups}
 
 -- ---- single stores
 

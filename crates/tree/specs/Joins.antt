@@ -5,13 +5,13 @@ use mathlib.Core.Path.{_≡_}
 use Prim.Native.Nat.{_+_, _*_}
 use native.Mathlib.Omega.{arith}
 use lib.ListN.{length}
 use Rattle.model.specs.Trees.{atPlace, size}
 use Rattle.model.specs.Shapes.{Shape, Valid}
 use Rattle.model.specs.Layout.{World, blank, Holds}
 use Rattle.model.specs.Memory.{memory}
 use Rattle.model.specs.Laws.Shapes.{sumOver-map}
 use Rattle.model.specs.Laws.Memory.{holds-represented, represented-holds}
-use Rattle.model.specs.Laws.Stores.{Stored}
+use Rattle.tree.specs.Stores.{Stored}
 
 abbrev pub StoredAs : World → Shape → Type 0
 StoredAs w x = Stored (x .groups) (x .places) (memory w) (w .state .«free_group») (w .state .«free_place») (x .tree) (x .freeGroups) (x .freePlaces)

@@ -9,18 +9,18 @@ use Prim.Native.Nat.{ℕ, _+_, _-_, _/_, _%_, _≤_, _<_}
 use native.Mathlib.Decide.{ℕ-discrete}
 use native.Mathlib.Omega.{arith}
 use lib.ListN.{length-append}
 use Rattle.model.specs.Sums.{indicator, indicator-same, indicator-other, indicator-le, sumOver, sumOver-append, sumBelow-zero, changed, changed-same, changed-other, byDec}
 use Rattle.model.specs.Dots.{zeroDot}
 use Rattle.model.specs.Trees.{Placed, Tree, leaf, branch, childNode, sumDots, sumGroups, atPlace, groupCount}
 use Rattle.model.specs.Layout.{none, blank}
 use Rattle.model.specs.Memory.{Mem, Chained, Represents}
 use Rattle.model.specs.Laws.Shapes.{below-le}
-use Rattle.model.specs.Laws.Frames.{sumNodes, nodeCount, SamePlace, SameNode, chain-frame, chain-pop, chain-drop}
-use Rattle.model.specs.Laws.Paths.{Children, sub, nodeAt, put, sumDots-put, sumGroups-put, sumDots-sub, sumNodes-sub, tree-sub, tree-put, nodes-groups}
-use Rattle.model.specs.Laws.Stores.{setFirst, setCount, setDot, setNext, free-frame, Stored, nodes-once, node-not-free, node-zero}
+use Rattle.tree.specs.Frames.{sumNodes, nodeCount, SamePlace, SameNode, chain-frame, chain-pop, chain-drop}
+use Rattle.tree.specs.Paths.{Children, sub, nodeAt, put, sumDots-put, sumGroups-put, sumDots-sub, sumNodes-sub, tree-sub, tree-put, nodes-groups}
+use Rattle.tree.specs.Stores.{setFirst, setCount, setDot, setNext, free-frame, Stored, nodes-once, node-not-free, node-zero}
 use Rattle.model.specs.Cleanup.{cleanTree, freedBy}
 use Rattle.model.specs.Laws.Cleanup.{clean-sum, clean-groups}
-use Rattle.model.specs.Laws.Collapses.{cleanWords, overGroup, clean-got}
+use Rattle.tree.specs.Collapses.{cleanWords, overGroup, clean-got}
 
 -- ---- a leaf changes, with the free places: what is owed
 

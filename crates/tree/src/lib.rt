@@ -1,0 +1,1 @@
+// The operations on a tree in the lent memory, without the check.
