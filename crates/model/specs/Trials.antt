@@ -47,6 +47,8 @@ pub data Line : Type 0 where
   query : AABB → List ℕ → ℕ → Line
   -- the words of the nodes and of the dots at this point
   words : List ℕ → List ℕ → Line
+  -- the free groups at this point, the head first
+  freeGroups : List ℕ → Line
 
 pub data Trial : Type 0 where
   -- the root contains the rectangle, or not
@@ -87,6 +89,7 @@ passLines x (remove id r word ∷ ls) = let v = recorded yesNo x (removeRule id 
 passLines x (cleanup word ∷ ls) = let v = recorded yesNo x (cleanupRule x) in eqb (v .word) word && passLines (v .shape) ls
 passLines x (all ids ∷ ls) = lists (allRule 8 x) ids && passLines x ls
 passLines x (words nodes dots ∷ ls) = sameList (layout x .nodes) nodes && sameList (layout x .dots) dots && passLines x ls
+passLines x (freeGroups gs ∷ ls) = sameList (x .freeGroups) gs && passLines x ls
 passLines x (query q ids opened ∷ ls) = lists (queryRule q 8 x) ids && opensJust (queryRule q 8 x) opened && passLines x ls
 
 abbrev passes : Trial → Bool
@@ -130,10 +133,19 @@ table =
     ∷ calls 2 8 (three (remove 1 (rect 9 1 10 2) 0 ∷ []))
     ∷ []
 
--- not starred: dotcheck's own lines, `S,2`, `E,5`, `Q,3,2,3,1`, `D,3,1`, `C,0`; and every word after its three inserts, with G = 1
+-- not starred: dotcheck's own lines, `S,2`, `E,5`, `Q,3,2,3,1`, `D,3,1`, `C,0`; the order of a dealt chain; the order of freed groups; and every word after
+-- dotcheck's three inserts, with G = 1
 abbrev pub further : List Trial
 further =
     deepest 2
+    -- both dots of the parent's chain 2, 1 go to child 1, where they stand as 1, 2
+    ∷ calls 2 8 (insert 1 (rect 1 1 2 2) 0 ∷ insert 2 (rect 3 3 3 3) 0 ∷ insert 3 (rect 9 9 10 10) 1 ∷ query (rect 0 0 16 16) (1 ∷ 2 ∷ 3 ∷ []) 6 ∷ [])
+    -- groups 1 and 2 below children 1 and 4: child 4's is freed first, so that child 1's is the head; the root's own waits for the next call
+    ∷ calls 1 4 (
+    insert 1 (rect 1 1 1 1) 0 ∷ insert 2 (rect 15 15 15 15) 1 ∷ insert 3 (rect 3 3 3 3) 1 ∷ insert 4 (rect 13 13 13 13) 1
+    ∷ remove 1 (rect 1 1 1 1) 1 ∷ remove 2 (rect 15 15 15 15) 1 ∷ remove 3 (rect 3 3 3 3) 1 ∷ remove 4 (rect 13 13 13 13) 1
+    ∷ cleanup 1 ∷ freeGroups (1 ∷ 2 ∷ 3 ∷ []) ∷ cleanup 1 ∷ freeGroups (0 ∷ 1 ∷ 2 ∷ 3 ∷ []) ∷ cleanup 0 ∷ []
+    )
     ∷ calls 2 8 (three (
     insert 4 (rect 16 16 18 18) (refusedWord 5) ∷ query (rect 0 0 8 8) (3 ∷ 1 ∷ []) 3 ∷ remove 3 (rect 7 7 9 9) 1 ∷ cleanup 0 ∷ []
     ))

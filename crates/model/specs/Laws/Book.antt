@@ -3,9 +3,10 @@
 --     idIs, dotIs  1 at the dots of an id; 1 at those of an id and a rectangle
 --     without-sum, but-tree        what a remove that says yes does to every weight
 --     count-live, dead-count, has-dot, has-hit, hit-has    from counts to `Live` and `Has`, and back
+--     Told, book-told      the book is fed arguments, 'accepted' and 'yes' alone: nothing else of an event, so nothing of the tree, makes a difference to it
 use mathlib.Core.Path.{_≡_, refl, ap, sym, _∙_}
 use mathlib.Core.Logic.{_⊎_, inl, inr, ⊎-elim}
-use mathlib.Core.List.{List, [], _∷_}
+use mathlib.Core.List.{List, [], _∷_, map}
 use mathlib.Core.Bool.{Bool, true, cond}
 use Prim.Native.Nat.{ℕ, _≤_}
 use native.Mathlib.Decide.{ℕ-discrete, decLe}
@@ -20,7 +21,8 @@ use Rattle.model.specs.Sums.{indicator, indicator-same, indicator-other,
 use Rattle.model.specs.Lists.{filter}
 use Rattle.model.specs.Dots.{isHit}
 use Rattle.model.specs.Trees.{Placed, Tree, sumDots, dots, sumDots-dots}
-use Rattle.model.specs.Book.{without, Has, Live, meeting}
+use Rattle.model.specs.Calls.{Reply}
+use Rattle.model.specs.Book.{Event, insert, remove, cleanup, query, accepted, saidYes, without, entered, bookAfter, Has, Live, meeting}
 use Rattle.model.specs.Laws.Remove.{sameRect-same}
 
 abbrev pub onDot : (Dot → ℕ) → Placed → ℕ
@@ -99,3 +101,39 @@ hit-has q k (d ∷ ds) c =
 pub meeting-le : (q : AABB) (k : ℕ) (b : List Dot) → sumOver (idIs k) (meeting q b) ≤ sumOver (idIs k) b
 meeting-le q k [] = omega arith
 meeting-le q k (d ∷ ds) = byBool (isHit q d) (λ t. rw t (omega (arith, meeting-le q k ds))) (λ t. rw t (omega (arith, meeting-le q k ds)))
+
+-- ---- what the book is told
+
+pub data Told : Type 0 where
+  put : Dot → Bool → Told
+  taken : ℕ → Bool → Told
+  nothing : Told
+
+abbrev pub toldOf : Event → Told
+toldOf (insert dot reply) = put dot (accepted reply)
+toldOf (remove id r reply) = taken id (saidYes reply)
+toldOf (cleanup reply) = nothing
+toldOf (query q row row′ reply) = nothing
+
+abbrev heard : List Dot → Told → List Dot
+heard b (put dot yes?) = cond yes? (dot ∷ b) b
+heard b (taken id yes?) = cond yes? (without id b) b
+heard b nothing = b
+
+entered-told : (b : List Dot) (e : Event) → entered b e ≡ heard b (toldOf e)
+entered-told b (insert dot reply) = refl
+entered-told b (remove id r reply) = refl
+entered-told b (cleanup reply) = refl
+entered-told b (query q row row′ reply) = refl
+
+-- two lists of events that tell the book the same give the same book
+pub book-told : (es fs : List Event) (b : List Dot) → map toldOf es ≡ map toldOf fs → bookAfter b es ≡ bookAfter b fs
+book-told es fs b same = all-told es b ∙ ap (fold b) same ∙ sym (all-told fs b)
+  where
+    fold : List Dot → List Told → List Dot
+    fold b [] = b
+    fold b (t ∷ ts) = fold (heard b t) ts
+
+    all-told : (es : List Event) (b : List Dot) → bookAfter b es ≡ fold b (map toldOf es)
+    all-told [] b = refl
+    all-told (e ∷ es) b = ap (λ c. bookAfter c es) (entered-told b e) ∙ all-told es (heard b (toldOf e))

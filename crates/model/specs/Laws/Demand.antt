@@ -36,8 +36,8 @@ use Rattle.model.specs.Laws.Cleanup.{clean-sum, no-clean, clean-no, Tidy
 use Rattle.model.specs.Laws.Insert.{insert-sum}
 use borrow.Author.Tests.{eq-eqb}
 use Rattle.model.specs.Laws.Remove.{found-gone, found-live}
-use Rattle.model.specs.Laws.Shapes.{sumOver-map, valid-height, fresh-valid}
-use Rattle.model.specs.Laws.Layout.{right-fits, layout-holds}
+use Rattle.model.specs.Laws.Shapes.{sumOver-map, valid-height, shape-routed}
+use Rattle.model.specs.Laws.Runs.{made-holds}
 use Rattle.model.specs.Laws.Book.{onDot, idIs, dotIs, but, without-sum, without-le, but-tree, sum-filter, dead-count, has-dot, has-hit, hit-has, meeting-le}
 use Rattle.model.specs.Laws.Calls.{insert-cases, insert-refused, insert-accepted, remove-no, remove-yes, cleanup-done, query-short, query-done, query-holds}
 
@@ -53,13 +53,6 @@ record Inv (s : Settings) (w : World) (b : List Dot) : Type 0 where
 -- another world that holds the same shape
 moved : (s : Settings) (w v : World) (b : List Dot) (I : Inv s w b) → Holds v (I .x) → Inv s v b
 moved s w v b I h = record { x = I .x; holds = h; settings = I .settings; same = I .same; once = I .once }
-
-tree-routed : (s : Settings) (n : _) (t : Tree) → WellFormed s n t → Routed n t
-tree-routed s n (leaf ds) v = tt
-tree-routed s n (branch g f) v = λ i b. (v .1 i b .0, tree-routed s _ (f i) (v .1 i b .1))
-
-shape-routed : (x : Shape) → Valid x → Routed (root x) (x .tree)
-shape-routed x v = tree-routed (x .settings) (root x) (x .tree) (v .wellFormed)
 
 -- ---- a step keeps the invariant
 
@@ -314,22 +307,7 @@ inv-promise s w b I =
 
 made-inv : (lent : World) (s : Settings) (start : World) → Make lent s start (answered tt) → Inv s start []
 unfolding fresh
-made-inv lent s start m =
-    byBool (lengthsRight lent)
-    (λ l.
-    byBool (inRange s)
-    (λ e.
-    let x = fresh s (groupsOf lent) (placesOf lent) in
-    let v = fresh-valid s (groupsOf lent) (placesOf lent) e (right-fits lent l .0) (right-fits lent l .1) in
-    record {
-      x = x;
-      holds = subst (λ (u : World). Holds u x) (sym (m .made l e .0)) (layout-holds x v);
-      settings = refl;
-      same = λ h. refl;
-      once = λ k. omega arith;
-    })
-    (λ e. true-false (ap accepted (m .badSettings l e .1))))
-    (λ l. true-false (ap accepted (m .badLength l .1)))
+made-inv lent s start m = record { x = fresh s (groupsOf lent) (placesOf lent); holds = made-holds lent s start m; settings = refl; same = λ h. refl; once = λ k. omega arith }
 
 -- THE THEOREM
 pub demand-3 : Demand3

@@ -1,24 +1,44 @@
--- Every list of calls has a run: from a world that is a tree, whatever the arguments, each call has an outcome and leaves a tree. So Demand3 speaks of every list.
+-- Runs: from a world that is a tree each call has an outcome and leaves a tree.
+--     made-holds   an accepted make leaves a tree, the fresh one
 --     Call, callOf         a call's arguments; those of an event
---     runs         THE LAW
-use mathlib.Core.Path.{_≡_, refl, ap, ap₂, sym, _∙_}
-use mathlib.Core.Logic.{⊎-elim}
+--     runs         every list of calls has a run, whatever the arguments: so Demand3 speaks of every list
+--     run-late     in a run from a tree no call is refused 1, 2 or 3
+use mathlib.Core.Path.{_≡_, refl, ap, ap₂, sym, _∙_, subst}
+use mathlib.Core.Logic.{_⊎_, inl, inr, ⊎-elim}
 use mathlib.Core.List.{List, [], _∷_, _++_, map}
-use mathlib.Core.Bool.{true, false}
-use Prim.Native.Nat.{ℕ}
+use mathlib.Core.Bool.{true, false, not, _||_}
+use Prim.Native.Nat.{ℕ, _≤_}
+use native.Mathlib.Omega.{arith}
 use lib.ListN.{length, drop}
-use lib.Dec.{ltb}
+use lib.Dec.{eqb, ltb}
 use Rattle.geometry.specs.declared.aabb.AABB.{AABB}
-use Rattle.arithmetic.specs.Tests.{byBool}
-use Rattle.geometry.specs.Settings.{inRange}
+use Rattle.geometry.specs.declared.settings.Settings.{Settings}
+use Rattle.geometry.specs.Rectangles.{inverted, farOut}
+use Rattle.arithmetic.specs.Tests.{byBool, true-false}
+use Rattle.model.specs.Lists.{All}
+use Rattle.model.specs.Trees.{size}
+use Rattle.geometry.specs.Settings.{rootOf, contains, inRange}
 use Rattle.model.specs.declared.Dot.{Dot}
-use Rattle.model.specs.Shapes.{Shape, inserted, splitsMade, removed, foundBy, cleaned, cleans, listed, opensFor}
-use Rattle.model.specs.Layout.{World, layout, cleared, Holds}
-use Rattle.model.specs.Calls.{refused, tooMany, answered, Verdict, refuse, overflow, accept, carriedOut, Obeys, Listed, insertRule, removeRule, cleanupRule, queryRule, Insert, Remove, Cleanup, Query}
-use Rattle.model.specs.Book.{Event, insert, remove, cleanup, query, Happens, Run}
-use Rattle.model.specs.Laws.Layout.{holds-lengths, holds-settings}
+use Rattle.model.specs.Shapes.{Shape, fresh, inserted, splitsMade, splitsNeeded, removed, foundBy, cleaned, cleans, listed, opensFor}
+use Rattle.model.specs.Layout.{World, groupsOf, placesOf, lengthsRight, layout, cleared, Holds}
+use Rattle.model.specs.Calls.{Reply, refused, tooMany, answered, refusal, Verdict, refuse, overflow, accept, carriedOut, Obeys, Listed, insertRule, removeRule, cleanupRule, queryRule, Make, Insert, Remove, Cleanup, Query}
+use Rattle.model.specs.Book.{Event, insert, remove, cleanup, query, Happens, Run, accepted}
+use Rattle.model.specs.Laws.Shapes.{fresh-valid}
+use Rattle.model.specs.Laws.Layout.{right-fits, layout-holds, holds-lengths, holds-settings}
 use Rattle.model.specs.Laws.Pattern.{by-tree}
-use Rattle.model.specs.Laws.Calls.{insert-cases, insert-refused, insert-accepted, remove-no, remove-yes, cleanup-done, query-holds}
+use Rattle.model.specs.Laws.Calls.{reply-of, insert-exit, insert-cases, insert-refused, insert-accepted, remove-no, remove-yes, cleanup-done, query-short, query-done, query-holds}
+
+pub made-holds : (lent : World) (s : Settings) (start : World) → Make lent s start (answered tt) → Holds start (fresh s (groupsOf lent) (placesOf lent))
+made-holds lent s start m =
+    byBool (lengthsRight lent)
+    (λ l.
+    byBool (inRange s)
+    (λ e.
+    let x = fresh s (groupsOf lent) (placesOf lent) in
+    let fits = right-fits lent l in
+    subst (λ (u : World). Holds u x) (sym (m .made l e .0)) (layout-holds x (fresh-valid s (groupsOf lent) (placesOf lent) e (fits .0) (fits .1))))
+    (λ e. true-false (ap accepted (m .badSettings l e .1))))
+    (λ l. true-false (ap accepted (m .badLength l .1)))
 
 pub data Call : Type 0 where
   toInsert : Dot → Call
@@ -105,3 +125,55 @@ runs w x h (c ∷ cs) =
     let n = next w x h c in
     let r = runs (n .1) (n .2) (n .4) cs in
     (n .0 ∷ r .0, r .1, (n .1, n .3, r .2), ap₂ (λ (d : Call) (ds : List Call). d ∷ ds) (n .5) (r .3))
+
+-- ---- refusals in a run
+
+abbrev pub refusalOf : Event → ℕ
+refusalOf (insert dot reply) = refusal reply
+refusalOf (remove id r reply) = refusal reply
+refusalOf (cleanup reply) = refusal reply
+refusalOf (query q row row′ reply) = refusal reply
+
+-- not refused, or with one of the numbers that come after 3
+abbrev pub Late : ℕ → Type 0
+Late k = (k ≡ 0) ⊎ (4 ≤ k)
+
+insert-late : (dot : Dot) (x : Shape) (w : World) → Late (refusal (carriedOut w [] (insertRule dot x) .reply))
+unfolding insertRule
+insert-late dot x w =
+    byBool (inverted (dot .rect) || farOut (dot .rect))
+    (λ e₄. inr (rw e₄ (omega arith)))
+    (λ e₄.
+    byBool (not (contains (rootOf (x .settings)) (dot .rect)))
+    (λ e₅. inr (rw (e₄, e₅) (omega arith)))
+    (λ e₅.
+    byBool (eqb (size (x .tree)) (x .places))
+    (λ e₆. inr (rw (e₄, e₅, e₆) (omega arith)))
+    (λ e₆.
+    byBool (ltb (length (x .freeGroups)) (splitsNeeded dot x))
+    (λ e₇. inr (rw (e₄, e₅, e₆, e₇) (omega arith)))
+    (λ e₇. inl (rw (e₄, e₅, e₆, e₇) refl)))))
+
+-- one call: what it leaves is a tree, and its refusal is late
+step-late : (w : World) (e : Event) (v : World) (x : Shape) → Holds w x → Happens w e v → Late (refusalOf e) × (y : Shape) × Holds v y
+step-late w (insert dot reply) v x h call =
+    let late = subst (λ (r : Reply ℕ). Late (refusal r)) (sym (reply-of (insert-exit w dot v reply call x h))) (insert-late dot x w) in
+    ⊎-elim
+    (λ k. (late, x, insert-refused w dot v reply call x h (k .0) (k .1) .0))
+    (λ g. (late, inserted dot x, insert-accepted w dot v reply call x h g .0))
+    (insert-cases dot x (h .valid))
+step-late w (remove id r reply) v x h call =
+    byBool (foundBy id r x)
+    (λ e. let a = remove-yes w id r v reply call x h e in (inl (ap refusal (a .1)), removed id r x, a .0))
+    (λ e. let a = remove-no w id r v reply call x h e in (inl (ap refusal (a .1)), x, a .0))
+step-late w (cleanup reply) v x h call = let a = cleanup-done w v reply call x h in (inl (ap refusal (a .1)), cleaned x, a .0)
+step-late w (query q row row′ reply) v x h call =
+    byBool (ltb (length row) (length (listed q x)))
+    (λ e. let a = query-short w q row v row′ reply call x h e in (inr (subst (λ (k : ℕ). 4 ≤ k) (sym (ap refusal (a .1))) (omega arith)), x, a .0))
+    (λ e. let a = query-done w q row v row′ reply call x h e in (inl (ap refusal (a .1)), x, a .0))
+
+pub run-late : (w : World) (x : Shape) → Holds w x → (es : List Event) (v : World) → Run w es v → All (λ e. Late (refusalOf e)) es
+run-late w x h [] v run = tt
+run-late w x h (e ∷ es) v run =
+    let s = step-late w e (run .0) x h (run .1) in
+    (s .0, run-late (run .0) (s .1) (s .2) es v (run .2))

@@ -1,6 +1,6 @@
 -- Every call keeps a shape valid.
 --     live-and-free        live dots and free places together are N
---     valid-height, child-0-leaf   a valid tree is at most D high; its children 0 are leaves
+--     valid-height, child-0-leaf, shape-routed     a valid tree is at most D high; its children 0 are leaves; its dots stand where they route to
 --     fresh-valid, inserted-valid, removed-valid, cleaned-valid
 use mathlib.Core.Path.{_≡_, refl, ap, sym, _∙_}
 use mathlib.Core.List.{List, [], _∷_, _++_, map}
@@ -26,6 +26,7 @@ use Rattle.model.specs.Trees.{Placed, Tree, leaf, branch, dots, sumDots-
 use Rattle.model.specs.Shapes.{Shape, Valid, WellFormed, below, fresh, inserted, splitsNeeded, removed, foundBy, cleaned, headOf, tailOf, root, placedIn}
 use borrow.Author.Tests.{leb-true}
 use Rattle.geometry.specs.Laws.Geometry.{levels-root}
+use Rattle.model.specs.Laws.Query.{Routed}
 use Rattle.model.specs.Laws.Insert.{insert-sum, insert-groups, insert-valid, valid-shallow}
 use Rattle.model.specs.Laws.Splitting.{needed-count}
 use Rattle.model.specs.Laws.Remove.{found-gone, remove-valid, remove-groups}
@@ -140,6 +141,14 @@ pub child-0-leaf : (s : Settings) (n : NodeData) (t : Tree) → WellFormed s (ch
 unfolding childData mayDivide
 child-0-leaf s n (leaf chain) v = (chain, refl)
 child-0-leaf s n (branch g f) v = true-false (sym (v .0))
+
+-- each dot stands in the leaf it routes to
+tree-routed : (s : Settings) (n : NodeData) (t : Tree) → WellFormed s n t → Routed n t
+tree-routed s n (leaf chain) v = tt
+tree-routed s n (branch g f) v = λ i b. (v .1 i b .0, tree-routed s (childData n i) (f i) (v .1 i b .1))
+
+pub shape-routed : (x : Shape) → Valid x → Routed (root x) (x .tree)
+shape-routed x v = tree-routed (x .settings) (root x) (x .tree) (v .wellFormed)
 
 -- ---- the calls
 

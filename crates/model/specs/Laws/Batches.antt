@@ -1,0 +1,82 @@
+-- Laws of the batch: the fold of the single operations.
+--     batch-words  an answer word for each record
+--     batch-append a batch of two lists is the first, then the second
+--     record-valid, batch-valid    it keeps the tree
+--     insert-record, remove-record, cleanup-record, other-record   a record is its single operation
+use mathlib.Core.Path.{_≡_, refl, ap, sym, _∙_, subst}
+use mathlib.Core.Logic.{⊎-elim}
+use mathlib.Core.List.{List, [], _∷_, _++_}
+use mathlib.Core.Bool.{Bool, true, false}
+use Prim.Native.Nat.{ℕ, suc, _+_, _≤_}
+use lib.ListN.{length}
+use lib.Dec.{eqb}
+use borrow.Author.Tests.{eq-eqb, ne-eqb}
+use Rattle.arithmetic.specs.Tests.{byBool}
+use Rattle.model.specs.declared.Dot.{Dot}
+use Rattle.model.specs.declared.Record.{Record}
+use Rattle.model.specs.Shapes.{Shape, Valid, inserted, splitsMade, removed, foundBy, cleaned, cleans}
+use Rattle.model.specs.Calls.{Verdict, refuse, overflow, accept, Recorded, recorded, refusedWord, yesNo, insertRule, removeRule, cleanupRule, carryOut, batchShape, batchWords}
+use Rattle.model.specs.Laws.Shapes.{inserted-valid, removed-valid, cleaned-valid}
+use Rattle.model.specs.Laws.Calls.{insert-cases}
+
+pub batch-words : (rs : List Record) (x : Shape) → length (batchWords rs x) ≡ length rs
+batch-words [] x = refl
+batch-words (r ∷ rs) x = ap suc (batch-words rs (carryOut r x .shape))
+
+pub batch-append : (rs ss : List Record) (x : Shape)
+    → (batchShape (rs ++ ss) x ≡ batchShape ss (batchShape rs x)) × (batchWords (rs ++ ss) x ≡ batchWords rs x ++ batchWords ss (batchShape rs x))
+batch-append [] ss x = (refl, refl)
+batch-append (r ∷ rs) ss x =
+    let rest = batch-append rs ss (carryOut r x .shape) in
+    (rest .0, ap (λ (words : List ℕ). carryOut r x .word ∷ words) (rest .1))
+
+-- ---- each kind
+
+module _ (r : Record) (x : Shape) where
+  pub insert-record : r .kind ≡ 0 → carryOut r x ≡ recorded (λ splits. splits) x (insertRule (r .dot) x)
+  unfolding carryOut
+  insert-record e = rw (eq-eqb (r .kind) 0 e) refl
+
+  pub remove-record : r .kind ≡ 1 → carryOut r x ≡ recorded yesNo x (removeRule (r .dot .id) (r .dot .rect) x)
+  unfolding carryOut
+  remove-record e = rw e refl
+
+  pub cleanup-record : r .kind ≡ 2 → carryOut r x ≡ recorded yesNo x (cleanupRule x)
+  unfolding carryOut
+  cleanup-record e = rw e refl
+
+  pub other-record : ¬ (r .kind ≡ 0) → ¬ (r .kind ≡ 1) → ¬ (r .kind ≡ 2) → carryOut r x ≡ record { shape = x; word = refusedWord 9 }
+  unfolding carryOut
+  other-record a b c = rw (ne-eqb (r .kind) 0 a, ne-eqb (r .kind) 1 b, ne-eqb (r .kind) 2 c) refl
+
+-- ---- the tree is kept
+
+insert-keeps : (dot : Dot) (x : Shape) → Valid x → Valid (recorded (λ splits. splits) x (insertRule dot x) .shape)
+insert-keeps dot x v =
+    ⊎-elim
+    (λ k. subst (λ u. Valid (recorded (λ (n : ℕ). n) x u .shape)) (sym (k .1)) v)
+    (λ g. subst (λ u. Valid (recorded (λ (n : ℕ). n) x u .shape)) (sym (g .3)) (inserted-valid dot x v (g .0) (g .1) (g .2)))
+    (insert-cases dot x v)
+
+remove-keeps : (dot : Dot) (x : Shape) → Valid x → Valid (recorded yesNo x (removeRule (dot .id) (dot .rect) x) .shape)
+unfolding removeRule
+remove-keeps dot x v = byBool (foundBy (dot .id) (dot .rect) x) (λ e. rw e (removed-valid (dot .id) (dot .rect) x v e)) (λ e. rw e v)
+
+cleanup-keeps : (x : Shape) → Valid x → Valid (recorded yesNo x (cleanupRule x) .shape)
+unfolding cleanupRule
+cleanup-keeps x v = cleaned-valid x v
+
+pub record-valid : (r : Record) (x : Shape) → Valid x → Valid (carryOut r x .shape)
+unfolding carryOut
+record-valid r x v =
+    byBool (eqb (r .kind) 0)
+    (λ e. rw e (insert-keeps (r .dot) x v))
+    (λ e.
+    rw e
+    (byBool (eqb (r .kind) 1)
+    (λ f. rw f (remove-keeps (r .dot) x v))
+    (λ f. rw f (byBool (eqb (r .kind) 2) (λ g. rw g (cleanup-keeps x v)) (λ g. rw g v)))))
+
+pub batch-valid : (rs : List Record) (x : Shape) → Valid x → Valid (batchShape rs x)
+batch-valid [] x v = v
+batch-valid (r ∷ rs) x v = batch-valid rs (carryOut r x .shape) (record-valid r x v)
