@@ -1,4 +1,5 @@
 -- A memory has one shape at most; so the pattern of the calls fixes what each call leaves, and asks nothing that contradicts itself.
+--     one-chain, one-tree, one-free    what is read from a link, a node, a head is one chain, one tree, one list
 --     holds-one    two shapes of one world are equal
 --     obeys-fixed  two exits of one call are equal
 --     by-length, by-settings, by-no-tree, by-tree  the four ways through a call
@@ -29,7 +30,7 @@ use Rattle.model.specs.Laws.Memory.{holds-represented}
 placed-equal : (d e : Placed) → d .place ≡ e .place → d .dot ≡ e .dot → d ≡ e
 placed-equal d e p q = λ i. record { place = p i; dot = q i }
 
-one-chain : (m : Mem) (h : ℕ) (c e : List Placed) → length c ≡ length e → Chained m h c none → Chained m h e none → c ≡ e
+pub one-chain : (m : Mem) (h : ℕ) (c e : List Placed) → length c ≡ length e → Chained m h c none → Chained m h e none → c ≡ e
 one-chain m h [] [] l s r = refl
 one-chain m h [] (e ∷ es) l s r = absurd (omega arith)
 one-chain m h (d ∷ ds) [] l s r = absurd (omega arith)
@@ -39,32 +40,29 @@ one-chain m h (d ∷ ds) (e ∷ es) l s r =
     let rest = one-chain m (m .next (d .place)) ds es (suc-inj l) (s .2) (subst (λ (q : ℕ). Chained m (m .next q) es none) (sym p) (r .2)) in
     λ i. one i ∷ rest i
 
--- no child beyond 4, at any depth
-abbrev Trim : Tree → Type 0
-Trim (leaf c) = Unit {0}
-Trim (branch g f) = ((i : ℕ) → i < 5 → Trim (f i)) × ((i : ℕ) → 5 ≤ i → f i ≡ leaf [])
+-- What its words tell a tree by: no leaf has a branch's count, and no branch a child beyond 4.
+abbrev pub Told : Tree → Type 0
+Told (leaf c) = length c < branchMark
+Told (branch g f) = ((i : ℕ) → i < 5 → Told (f i)) × ((i : ℕ) → 5 ≤ i → f i ≡ leaf [])
 
-trim : (s : _) (n : _) (t : Tree) → WellFormed s n t → Trim t
-trim s n (leaf c) v = tt
-trim s n (branch g f) v = ((λ i b. trim s _ (f i) (v .1 i b .1)), v .2)
+well-told : (s : _) (n : _) (t : Tree) → WellFormed s n t → size t < branchMark → Told t
+well-told s n (leaf c) v b = omega (arith, sumOver-one c)
+well-told s n (branch g f) v b = ((λ i c. well-told s _ (f i) (v .1 i c .1) (omega (arith, sumBelow-term 5 (λ j. size (f j)) i c))), v .2)
 
-one-tree : (m : Mem) (a : ℕ) (t u : Tree) → Trim t → Trim u → size t < branchMark → size u < branchMark → Represents m a t → Represents m a u → t ≡ u
-one-tree m a (leaf c) (leaf e) p q l k r s = ap leaf (one-chain m (m .first a) c e (sym (r .0) ∙ s .0) (r .1) (s .1))
-one-tree m a (leaf c) (branch g f) p q l k r s = absurd (omega (arith, r .0, s .0, sumOver-one c))
-one-tree m a (branch g f) (leaf e) p q l k r s = absurd (omega (arith, r .0, s .0, sumOver-one e))
-one-tree m a (branch g f) (branch h e) p q l k r s =
+pub one-tree : (m : Mem) (a : ℕ) (t u : Tree) → Told t → Told u → Represents m a t → Represents m a u → t ≡ u
+one-tree m a (leaf c) (leaf e) p q r s = ap leaf (one-chain m (m .first a) c e (sym (r .0) ∙ s .0) (r .1) (s .1))
+one-tree m a (leaf c) (branch g f) p q r s = absurd (omega (arith, r .0, s .0))
+one-tree m a (branch g f) (leaf e) p q r s = absurd (omega (arith, r .0, s .0))
+one-tree m a (branch g f) (branch h e) p q r s =
     let same : h ≡ g = omega (arith, r .1, s .1) in
     let each : (i : ℕ) → f i ≡ e i = λ i.
     byDec (decLt i 5)
-    (λ b.
-    one-tree m (childNode g i) (f i) (e i) (p .0 i b) (q .0 i b)
-    (omega (arith, sumBelow-term 5 (λ j. size (f j)) i b)) (omega (arith, sumBelow-term 5 (λ j. size (e j)) i b))
-    (r .2 i b) (subst (λ (y : ℕ). Represents m (childNode y i) (e i)) same (s .2 i b)))
+    (λ b. one-tree m (childNode g i) (f i) (e i) (p .0 i b) (q .0 i b) (r .2 i b) (subst (λ (y : ℕ). Represents m (childNode y i) (e i)) same (s .2 i b)))
     (λ n. p .1 i (omega arith) ∙ sym (q .1 i (omega arith))) in
     ap₂ branch (sym same) (fun-ext each)
 
 -- the groups of a free list are no none
-one-free : (m : Mem) (h : ℕ) (gs hs : List ℕ) → ((k : ℕ) → 1 ≤ count k gs → k < 16384) → ((k : ℕ) → 1 ≤ count k hs → k < 16384) → FreeGroups m h gs → FreeGroups m h hs → gs ≡ hs
+pub one-free : (m : Mem) (h : ℕ) (gs hs : List ℕ) → ((k : ℕ) → 1 ≤ count k gs → k < 16384) → ((k : ℕ) → 1 ≤ count k hs → k < 16384) → FreeGroups m h gs → FreeGroups m h hs → gs ≡ hs
 unfolding none
 one-free m h [] [] a b r s = refl
 one-free m h [] (k ∷ hs) a b r s = absurd (omega (arith, r, s .0, b k (omega (arith, indicator-same k))))
@@ -83,11 +81,11 @@ places-back : (ps : List ℕ) → map (λ d. d .place) (map blank ps) ≡ ps
 places-back [] = refl
 places-back (p ∷ ps) = ap (λ (xs : List ℕ). p ∷ xs) (places-back ps)
 
-length-blank : (ps : List ℕ) → length (map blank ps) ≡ length ps
+pub length-blank : (ps : List ℕ) → length (map blank ps) ≡ length ps
 length-blank [] = refl
 length-blank (p ∷ ps) = ap suc (length-blank ps)
 
-size-small : (x : Shape) → Valid x → size (x .tree) < branchMark
+pub size-small : (x : Shape) → Valid x → size (x .tree) < branchMark
 unfolding branchMark
 size-small x v = omega (arith, live-and-free x v, v .placesFit)
 
@@ -102,7 +100,7 @@ holds-one w x y hx hy =
     let groups : x .groups ≡ y .groups = omega (arith, r .nodes, s .nodes) in
     let places : x .places ≡ y .places = omega (arith, r .dots, s .dots) in
     let settings : x .settings ≡ y .settings = sym (r .settings) ∙ s .settings in
-    let tree = one-tree m 0 (x .tree) (y .tree) (trim _ _ (x .tree) (vx .wellFormed)) (trim _ _ (y .tree) (vy .wellFormed)) (size-small x vx) (size-small y vy) (r .tree) (s .tree) in
+    let tree = one-tree m 0 (x .tree) (y .tree) (well-told _ _ (x .tree) (vx .wellFormed) (size-small x vx)) (well-told _ _ (y .tree) (vy .wellFormed) (size-small y vy)) (r .tree) (s .tree) in
     let freeGroups = one-free m (w .state .«free_group») (x .freeGroups) (y .freeGroups) (free-range x vx) (free-range y vy) (r .groups) (s .groups) in
     let equal : length (map blank (x .freePlaces)) ≡ length (map blank (y .freePlaces)) =
     omega (arith, length-blank (x .freePlaces), length-blank (y .freePlaces), live-and-free x vx, live-and-free y vy, places, ap size tree) in

@@ -1,4 +1,5 @@
 -- Every call keeps a shape valid.
+--     distinct-length      distinct numbers below n are at most n
 --     live-and-free        live dots and free places together are N
 --     valid-height, child-0-leaf, shape-routed     a valid tree is at most D high; its children 0 are leaves; its dots stand where they route to
 --     fresh-valid, inserted-valid, removed-valid, cleaned-valid
@@ -14,7 +15,7 @@ use lib.IntN.{pos}
 use Rattle.arithmetic.specs.Linear.{and-t}
 use Rattle.geometry.specs.declared.aabb.AABB.{AABB}
 use Rattle.geometry.specs.declared.settings.Settings.{Settings}
-use Rattle.model.specs.Sums.{indicator, indicator-same, indicator-other, sumOver, sumOver-append, sumOver-one, sumBelow, sumBelow-ext, sumBelow-add, sumBelow-zero, sumBelow-only, byDec}
+use Rattle.model.specs.Sums.{indicator, indicator-same, indicator-other, sumOver, sumOver-append, sumOver-one, sumBelow, sumBelow-ext, sumBelow-le, sumBelow-add, sumBelow-zero, sumBelow-only, byDec}
 use Rattle.model.specs.Lists.{upTo, count}
 use Rattle.arithmetic.specs.Tests.{byBool, true-false}
 use Rattle.geometry.specs.Settings.{rootFits, between, inRange, D}
@@ -91,6 +92,10 @@ once-length n ps o =
       sumBelow-ext n (λ k. count k ps) (λ k. 1) (λ k b. o k ∙ below-yes k n b),
       sum-const n,
     )
+
+-- distinct numbers below n are at most n
+pub distinct-length : (n : ℕ) (ps : List ℕ) → ((k : ℕ) → count k ps ≤ 1) → ((k : ℕ) → n ≤ k → count k ps ≡ 0) → length ps ≤ n
+distinct-length n ps o z = omega (arith, sum-ones n ps z, sum-swap n ps, sumBelow-le n (λ k. count k ps) (λ k. 1) (λ k b. o k), sum-const n)
 
 pub live-and-free : (x : Shape) → Valid x → size (x .tree) + length (x .freePlaces) ≡ x .places
 live-and-free x v =

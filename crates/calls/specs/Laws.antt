@@ -1,0 +1,2 @@
+-- Laws of the public calls, a file a call.
+pub mod References

@@ -1,0 +1,29 @@
+// References: the dots in all leaves.
+ghost use Rattle.model.specs.Layout.{world};
+ghost use Rattle.model.specs.Calls.{References};
+ghost use Rattle.calls.specs.References.{replyOf};
+use model::State;
+use tree_check::check::check;
+
+// What references answers: its refusal, or the number of dots.
+pub enum Counted {
+    Refused(u32),
+    Count(u32),
+}
+
+// The number of dots in all leaves, which the check has found to be the live number.
+pub fn references(
+    state: State,
+    nodes: &[u32],
+    dots: &[u32],
+    rects: &[i32],
+    marks: &mut [u8],
+) -> Counted
+    ensures { λ r. ⌜ References (world state (now (nodes .entry)) (now (dots .entry)) (now (rects .entry)) (now (marks .entry))) (world state (now (nodes .exit)) (now (dots .exit)) (now (rects .exit)) (now (marks .exit))) (replyOf r) ⌝ }
+{
+    let refusal = check(state, nodes, dots, rects, marks);
+    if refusal != 0 {
+        return Counted::Refused(refusal);
+    }
+    Counted::Count(state.live)
+}

@@ -1,0 +1,97 @@
+-- A row of ten words has the three that are written.
+use native.Mathlib.Omega.{arith}
+use lib.ListN.{length-set}
+use borrow.Author.Needs.{needs}
+use Rattle.calls_export.proofs.calls_make.Statement.{statement}
+use Rattle.calls_export.proofs.calls_make.Tie as tie
+
+returns : tie.Need-returns
+returns c = search needs
+
+settings-in-requires : tie.Need-settings-in-requires
+settings-in-requires c κs = search needs
+
+make-requires : tie.Need-make-requires
+make-requires c κs = search needs
+
+enum-known-refusal : tie.Need-enum-known-refusal
+enum-known-refusal c = search needs
+
+cast-result : tie.Need-cast-result
+cast-result c = search needs
+
+enum-known-made : tie.Need-enum-known-made
+enum-known-made c = search needs
+
+slice-write-state : tie.Need-slice-write-state
+slice-write-state c = search needs
+
+slice-write-state-2 : tie.Need-slice-write-state-2
+slice-write-state-2 c =
+    simp length-set (omega (arith, c .before .before .before .before .before .before .before .before .before .before .before .before .before .before .before .before .before .if1 .left))
+
+slice-write-state-3 : tie.Need-slice-write-state-3
+slice-write-state-3 c =
+    simp length-set (omega (arith, c .before .before .before .before .before .before .before .before .before .before .before .before .before .before .before .before .before .if1 .left))
+
+same-length : tie.Need-same-length
+same-length c = search needs
+
+same-length-2 : tie.Need-same-length-2
+same-length-2 c = search needs
+
+same-length-3 : tie.Need-same-length-3
+same-length-3 c = search needs
+
+same-length-4 : tie.Need-same-length-4
+same-length-4 c = search needs
+
+same-length-5 : tie.Need-same-length-5
+same-length-5 c = search needs
+
+returns-2 : tie.Need-returns-2
+returns-2 c = search needs
+
+same-length-6 : tie.Need-same-length-6
+same-length-6 c = search needs
+
+same-length-7 : tie.Need-same-length-7
+same-length-7 c = search needs
+
+same-length-8 : tie.Need-same-length-8
+same-length-8 c = search needs
+
+same-length-9 : tie.Need-same-length-9
+same-length-9 c = search needs
+
+same-length-10 : tie.Need-same-length-10
+same-length-10 c = search needs
+
+returns-3 : tie.Need-returns-3
+returns-3 c = search needs
+
+pub calls-make-spec : {M : Type 1} → statement M
+calls-make-spec =
+    tie.close
+    (tie.spec
+    returns
+    settings-in-requires
+    make-requires
+    enum-known-refusal
+    cast-result
+    enum-known-made
+    slice-write-state
+    slice-write-state-2
+    slice-write-state-3
+    same-length
+    same-length-2
+    same-length-3
+    same-length-4
+    same-length-5
+    returns-2
+    same-length-6
+    same-length-7
+    same-length-8
+    same-length-9
+    same-length-10
+    returns-3)

@@ -1,0 +1,100 @@
+// The tree below a node: a node's walk hands its group on, and the group's walk hands each child back.
+ghost use Prim.Native.Nat.{_*_, _≤_};
+ghost use Rattle.tree_check.specs.Trees.{memoryOf, TreeReady, TreeScanned, GroupReady, GroupScanned, Sound};
+use crate::chain::check_chain;
+use crate::free::group_at;
+use crate::region::Gate;
+use crate::region::Region;
+use memory::words::node_at;
+
+// Whether a tree as it should be stands at the node, of which nothing was marked; marks what it meets.
+pub fn check_node(
+    nodes: &[u32],
+    dots: &[u32],
+    rects: &[i32],
+    marks: &mut [u8],
+    places: usize,
+    groups: usize,
+    region: Region,
+    node: usize,
+) -> bool
+    requires { ⌜ TreeReady (now nodes) (now dots) (now rects) (now marks) places groups × Sound region × (node ≤ 5 * groups) ⌝ }
+    ensures { λ r. ⌜ TreeScanned region (memoryOf (now (nodes .entry)) (now (dots .entry)) (now (rects .entry))) (now (marks .entry)) places groups node (now (marks .exit)) r ⌝ }
+{
+    let words = node_at(nodes, node);
+    let splits = region.may_split();
+    if words.is_branch() {
+        if !splits {
+            return false;
+        }
+        let group = group_at(words.first, groups);
+        if group >= groups {
+            return false;
+        }
+        if marks[places + group] != 0 {
+            return false;
+        }
+        marks[places + group] = 1;
+        check_group(nodes, dots, rects, marks, places, groups, region, group, 5)
+    } else {
+        let settings = region.settings;
+        if splits & (words.count > settings.leaf_limit) {
+            return false;
+        }
+        check_chain(
+            dots,
+            rects,
+            marks,
+            places,
+            Gate::Leaf(region),
+            words.first,
+            words.count,
+        )
+    }
+}
+
+// The same of the first `left` children of a group, whose parent stands in the region.
+fn check_group(
+    nodes: &[u32],
+    dots: &[u32],
+    rects: &[i32],
+    marks: &mut [u8],
+    places: usize,
+    groups: usize,
+    region: Region,
+    group: usize,
+    left: u32,
+) -> bool
+    requires { ⌜ TreeReady (now nodes) (now dots) (now rects) (now marks) places groups × GroupReady region groups group left ⌝ }
+    ensures { λ r. ⌜ GroupScanned region (memoryOf (now (nodes .entry)) (now (dots .entry)) (now (rects .entry))) (now (marks .entry)) places groups group left (now (marks .exit)) r ⌝ }
+{
+    if left == 0 {
+        return true;
+    }
+    let child = left - 1;
+    let below = region.below(child);
+    if check_node(
+        nodes,
+        dots,
+        rects,
+        marks,
+        places,
+        groups,
+        below,
+        1 + 5 * group + (child as usize),
+    ) {
+        check_group(
+            nodes,
+            dots,
+            rects,
+            marks,
+            places,
+            groups,
+            region,
+            group,
+            child,
+        )
+    } else {
+        false
+    }
+}
