@@ -1,0 +1,5 @@
+-- The query's walk.
+pub mod Rows
+pub mod Walks
+pub mod Chains
+pub mod Groups
