@@ -3,3 +3,4 @@ pub mod Rows
 pub mod Walks
 pub mod Chains
 pub mod Groups
+pub mod Shapes
