@@ -1,0 +1,26 @@
+-- Child 0, or the child's bit, by the law of codes.
+use mathlib.Core.Bool.{_||_}
+use mathlib.Core.Path.{_∙_, ap}
+use Prim.Native.Nat.{ℕ}
+use lib.Dec.{eqb}
+use Rattle.geometry.specs.Cells.{bitAt}
+use Rattle.geometry.specs.Laws.Codes.{opens-code}
+use borrow.Author.Needs.{needs}
+use Rattle.geometry.proofs.centered_aabb.CenteredAABB.opens.Statement.{statement}
+use Rattle.geometry.proofs.centered_aabb.CenteredAABB.opens.Tie as tie
+
+explore-quadrants-requires : tie.Need-explore-quadrants-requires
+explore-quadrants-requires c κs = search needs
+
+at-requires : tie.Need-at-requires
+at-requires c κs = search needs
+
+returns : tie.Need-returns
+returns c =
+    let a = c .before .before .args in
+    let i = a .child in
+    let bit = c .at .ensures ∙ ap (λ (code : ℕ). bitAt code i) (c .before .explore-quadrants .ensures) in
+    (λ j. eqb i 0 || bit j) ∙ opens-code (a .self) (a .query) i
+
+pub opens-spec : {M : Type 1} → statement M
+opens-spec = tie.close (tie.spec explore-quadrants-requires at-requires returns)

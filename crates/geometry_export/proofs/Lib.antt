@@ -1,0 +1,3 @@
+-- Tools that the functions' proofs share.
+pub mod Numbers
+pub mod Paths
