@@ -20,7 +20,7 @@ use Rattle.model.specs.Trees.{Placed}
 use Rattle.model.specs.Layout.{none}
 use Rattle.model.specs.Memory.{Mem, nextAt, dotAt, Chained}
 use Rattle.memory.specs.Rows.{HasPlace, HasRect}
-use Rattle.query.specs.declared.Found.{Found}
+use Rattle.query.specs.declared.walk.Found.{Found}
 use Rattle.query.specs.Rows.{kept, keptAll, kept-length}
 use Rattle.query.specs.Walks.{memoryOf, InRows, chainHits, hitsAfter, rowWith, after, rowAfter, Left, ChainWalk, ChainWalked}
 

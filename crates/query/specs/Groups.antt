@@ -28,7 +28,7 @@ use Rattle.model.specs.Query.{hits, opened}
 use Rattle.model.specs.Layout.{none, branchMark}
 use Rattle.model.specs.Memory.{Mem, firstAt, countAt, nextAt, dotAt, Chained, Represents}
 use Rattle.memory.specs.Rows.{HasNode}
-use Rattle.query.specs.declared.Found.{Found}
+use Rattle.query.specs.declared.walk.Found.{Found}
 use Rattle.query.specs.Rows.{keptAll, kept-append, keptAll-length}
 use Rattle.query.specs.Walks.{memoryOf, InRows, NodesIn, nodeTotal, Stands, joinLast, sumLast, chainHits, groupHits, groupOpened, after, rowAfter, Left, Counts, ChainWalk, ChainWalked, NodeWalk, NodeWalked, GroupWalk, GroupWalked}
 
@@ -45,7 +45,7 @@ map-append : (ds es : List Placed) → map (λ d. d .dot .id) (ds ++ es) ≡ map
 map-append [] es = refl
 map-append (d ∷ ds) es = ap (λ (xs : List ℕ). d .dot .id ∷ xs) (map-append ds es)
 
-length-map : (ds : List Placed) → length (map (λ d. d .dot .id) ds) ≡ length ds
+pub length-map : (ds : List Placed) → length (map (λ d. d .dot .id) ds) ≡ length ds
 length-map [] = refl
 length-map (d ∷ ds) = ap suc (length-map ds)
 

@@ -4,3 +4,5 @@ pub mod Walks
 pub mod Chains
 pub mod Groups
 pub mod Shapes
+pub mod Answers
+pub mod Queries

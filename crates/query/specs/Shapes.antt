@@ -27,7 +27,7 @@ use Rattle.model.specs.Laws.Shapes.{below-yes, below-no, once-length, live-and-
 use Rattle.model.specs.Laws.Entries.{nodeIs, nodes-once, node-range, node-there}
 use Rattle.model.specs.Laws.Memory.{holds-represented}
 use Rattle.memory.specs.Rows.{HasNode, HasPlace, HasRect}
-use Rattle.query.specs.declared.Found.{Found}
+use Rattle.query.specs.declared.walk.Found.{Found}
 use Rattle.query.specs.Rows.{keptAll}
 use Rattle.query.specs.Walks.{InRows, NodesIn, nodeTotal, Stands, after, rowAfter, Left, Counts, NodeWalk, NodeWalked}
 

@@ -22,7 +22,7 @@ use Rattle.model.specs.Query.{hits, opened}
 use Rattle.model.specs.Layout.{none}
 use Rattle.model.specs.Memory.{Mem, firstAt, countAt, nextAt, dotAt, Chained, Represents}
 use Rattle.memory.specs.Rows.{HasNode, HasPlace, HasRect}
-use Rattle.query.specs.declared.Found.{Found}
+use Rattle.query.specs.declared.walk.Found.{Found}
 use Rattle.query.specs.Rows.{kept, keptAll}
 
 abbrev pub memoryOf : List ℕ → List ℕ → List ℤ → Mem

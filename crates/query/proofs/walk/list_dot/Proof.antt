@@ -3,8 +3,8 @@ use mathlib.Core.Path.{sym, _∙_}
 use borrow.Author.Tests.{not-true, not-false}
 use Rattle.query.specs.Chains.{dot-missed, dot-hit}
 use borrow.Author.Needs.{needs}
-use Rattle.query.proofs.list_dot.Statement.{statement}
-use Rattle.query.proofs.list_dot.Tie as tie
+use Rattle.query.proofs.walk.list_dot.Statement.{statement}
+use Rattle.query.proofs.walk.list_dot.Tie as tie
 
 intersects-with-requires : tie.Need-intersects-with-requires
 intersects-with-requires c κs = search needs

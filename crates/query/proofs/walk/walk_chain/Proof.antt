@@ -4,8 +4,8 @@ use native.Mathlib.Omega.{arith}
 use borrow.Author.Needs.{needs}
 use Rattle.memory.specs.Rows.{HasPlace, HasRect}
 use Rattle.query.specs.Chains.{Rest, rest-start, rest-turn, rest-place, rest-end}
-use Rattle.query.proofs.walk_chain.Statement.{statement}
-use Rattle.query.proofs.walk_chain.Tie as tie
+use Rattle.query.proofs.walk.walk_chain.Statement.{statement}
+use Rattle.query.proofs.walk.walk_chain.Tie as tie
 
 abbrev Inv-loop : tie.InvT-loop
 Inv-loop query dots rects row₀ room head count opened hits₀ place₀ left₀ row hits place left =

@@ -17,20 +17,20 @@ use Rattle.query.specs.Groups.{opening, node-in, opening-fits, leaf-chai
 use Prim.Native.Nat.{ℕ, _<_, _≤_, _+_, _-_, _*_}
 use borrow.Fn.Kinds.{In}
 use borrow.Fn.PlainCycle.{Measures, is, falls, and}
-use Rattle.query.proofs.walk_group.Reads as walk-group
-use Rattle.query.proofs.walk_group.Kinds as walk-group-kinds
-use Rattle.query.proofs.+walk_group+walk_node.Lts-walk_group as walk-group-lts
-use Rattle.query.proofs.walk_node.Reads as walk-node
-use Rattle.query.proofs.walk_node.Kinds as walk-node-kinds
-use Rattle.query.proofs.+walk_group+walk_node.Lts-walk_node as walk-node-lts
+use Rattle.query.proofs.walk.walk_group.Reads as walk-group
+use Rattle.query.proofs.walk.walk_group.Kinds as walk-group-kinds
+use Rattle.query.proofs.walk.+walk_group+walk_node.Lts-walk_group as walk-group-lts
+use Rattle.query.proofs.walk.walk_node.Reads as walk-node
+use Rattle.query.proofs.walk.walk_node.Kinds as walk-node-kinds
+use Rattle.query.proofs.walk.+walk_group+walk_node.Lts-walk_node as walk-node-lts
 use Rattle.geometry.proofs.centered_aabb.CenteredAABB.explore_quadrants.Reads as explore-quadrants-reads
 use Rattle.geometry.proofs.centered_aabb.CenteredAABB.split.Reads as split-reads
 use Rattle.geometry.proofs.quadrants.Quadrants.at.Reads as at-reads
 use Rattle.memory.proofs.node.Node.is_branch.Reads as is-branch-reads
 use Rattle.memory.proofs.words.node_at.Reads as node-at-reads
-use Rattle.query.proofs.walk_chain.Reads as walk-chain-reads
-use Rattle.query.proofs.+walk_group+walk_node.{statement}
-use Rattle.query.proofs.+walk_group+walk_node.Tie.{close}
+use Rattle.query.proofs.walk.walk_chain.Reads as walk-chain-reads
+use Rattle.query.proofs.walk.+walk_group+walk_node.{statement}
+use Rattle.query.proofs.walk.+walk_group+walk_node.Tie.{close}
 
 -- what the node's test says of its count
 not-branch : (nodes : List ℕ) (a : ℕ) {w : Node} {b : Bool} → w ≡ nodeAt nodes a → b ≡ eqb (w .count) branchMark → not b ≡ true → countAt nodes a ≡ branchMark → ⊥

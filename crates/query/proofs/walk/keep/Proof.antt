@@ -2,8 +2,8 @@
 use borrow.Author.Tests.{lt-ltb, le-ltb}
 use Rattle.query.specs.Rows.{kept}
 use borrow.Author.Needs.{needs}
-use Rattle.query.proofs.keep.Statement.{statement}
-use Rattle.query.proofs.keep.Tie as tie
+use Rattle.query.proofs.walk.keep.Statement.{statement}
+use Rattle.query.proofs.walk.keep.Tie as tie
 
 mul-row : tie.Need-mul-row
 mul-row c = search needs
