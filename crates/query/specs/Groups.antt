@@ -1,16 +1,18 @@
 -- The walk of a node and of its group: a law for each way through the code.
+--     not-branch, is-branch        what a test for a branch says of the count
 --     left-none, left-then         nothing more; one walk after another
 --     leaf-chain, leaf-walked      a leaf
 --     branch-group, branch-walked  a branch
 --     group-none; group-skip, group-skipped; group-node, group-rest, group-walked  a group: no child left; a child that isn't opened; one that is
 use mathlib.Core.Path.{_≡_, refl, ap, sym, _∙_, subst}
 use mathlib.Core.List.{List, [], _∷_, _++_, map, append-assoc, append-nil}
-use mathlib.Core.Bool.{Bool, true, false, cond, _||_}
+use mathlib.Core.Bool.{Bool, true, false, not, cond, _||_}
 use Prim.Native.Nat.{ℕ, zero, suc, _+_, _*_, _-_, _≤_, _<_}
 use native.Mathlib.Omega.{arith}
 use lib.IntN.{ℤ}
 use lib.Dec.{eqb}
 use lib.ListN.{length, length-append}
+use borrow.Author.Tests.{not-true, not-false, eqb-true, eqb-false}
 use Rattle.arithmetic.specs.Tests.{byBool, true-false}
 use Rattle.geometry.specs.declared.aabb.AABB.{AABB}
 use Rattle.geometry.specs.declared.centered_aabb.CenteredAABB.{CenteredAABB}
@@ -27,10 +29,20 @@ use Rattle.model.specs.Trees.{Placed, Tree, leaf, branch, childNode, Shallow, s
 use Rattle.model.specs.Query.{hits, opened}
 use Rattle.model.specs.Layout.{none, branchMark}
 use Rattle.model.specs.Memory.{Mem, firstAt, countAt, nextAt, dotAt, Chained, Represents}
+use Rattle.memory.specs.declared.node.Node.{Node}
+use Rattle.memory.specs.Nodes.{nodeAt}
 use Rattle.memory.specs.Rows.{HasNode}
 use Rattle.query.specs.declared.walk.Found.{Found}
 use Rattle.query.specs.Rows.{keptAll, kept-append, keptAll-length}
 use Rattle.query.specs.Walks.{memoryOf, InRows, NodesIn, nodeTotal, Stands, joinLast, sumLast, chainHits, groupHits, groupOpened, after, rowAfter, Left, Counts, ChainWalk, ChainWalked, NodeWalk, NodeWalked, GroupWalk, GroupWalked}
+
+-- ---- what a test for a branch says of the count
+
+pub not-branch : (nodes : List ℕ) (a : ℕ) {w : Node} {b : Bool} → w ≡ nodeAt nodes a → b ≡ eqb (w .count) branchMark → not b ≡ true → countAt nodes a ≡ branchMark → ⊥
+not-branch nodes a {w} {b} e f n h = eqb-false (w .count) branchMark (sym f ∙ not-true b n) (ap (λ (x : Node). x .count) e ∙ h)
+
+pub is-branch : (nodes : List ℕ) (a : ℕ) {w : Node} {b : Bool} → w ≡ nodeAt nodes a → b ≡ eqb (w .count) branchMark → not b ≡ false → countAt nodes a ≡ branchMark
+is-branch nodes a {w} {b} e f n = sym (ap (λ (x : Node). x .count) e) ∙ eqb-true (w .count) branchMark (sym f ∙ not-false b n)
 
 -- ---- one walk after another
 

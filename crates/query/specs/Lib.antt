@@ -6,3 +6,5 @@ pub mod Groups
 pub mod Shapes
 pub mod Answers
 pub mod Queries
+pub mod Leaves
+pub mod LeafLaws

@@ -30,7 +30,7 @@ use Rattle.model.specs.Laws.Memory.{holds-represented}
 use Rattle.model.specs.Laws.Listing.{listed-le}
 use Rattle.tree.specs.Operations.{IsTree}
 use Rattle.query.specs.declared.walk.Found.{Found}
-use Rattle.query.specs.Rows.{keptAll, kept-none, kept-whole}
+use Rattle.query.specs.Rows.{keptAll, kept-whole}
 use Rattle.query.specs.Walks.{after, rowAfter, NodeWalk, NodeWalked}
 use Rattle.query.specs.Groups.{length-map}
 use Rattle.query.specs.Shapes.{root-stands, root-counts}

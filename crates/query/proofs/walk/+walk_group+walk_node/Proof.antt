@@ -1,19 +1,15 @@
 -- The query's walk lists what the query meets in the tree at a node, and counts the nodes opened. The node's walk hands its group on, the group's hands each child back.
 -- The measure: seven for each level left, and in a group one more and the children left.
-use mathlib.Core.Path.{_≡_, ap, sym, _∙_, subst}
-use mathlib.Core.Bool.{Bool, true, false, not, _||_}
-use mathlib.Core.List.{List}
+use mathlib.Core.Path.{ap, sym, _∙_, subst}
+use mathlib.Core.Bool.{Bool, _||_}
 use native.Mathlib.Omega.{arith}
 use lib.Dec.{eqb}
 use borrow.Author.Needs.{needs}
-use borrow.Author.Tests.{not-true, not-false, eqb-true, eqb-false}
+use borrow.Author.Tests.{not-true, not-false}
 use Rattle.model.specs.Trees.{childNode}
-use Rattle.model.specs.Layout.{branchMark}
-use Rattle.model.specs.Memory.{countAt}
 use Rattle.memory.specs.declared.node.Node.{Node}
-use Rattle.memory.specs.Nodes.{nodeAt}
 use Rattle.query.specs.Walks.{ChainWalk, ChainWalked, GroupWalk, GroupWalked}
-use Rattle.query.specs.Groups.{opening, node-in, opening-fits, leaf-chain, leaf-walked, branch-levels, branch-group, branch-walked, group-none, group-skip, group-skipped, group-node, group-rest, group-walked}
+use Rattle.query.specs.Groups.{not-branch, is-branch, opening, node-in, opening-fits, leaf-chain, leaf-walked, branch-levels, branch-group, branch-walked, group-none, group-skip, group-skipped, group-node, group-rest, group-walked}
 use Prim.Native.Nat.{ℕ, _<_, _≤_, _+_, _-_, _*_}
 use borrow.Fn.Kinds.{In}
 use borrow.Fn.PlainCycle.{Measures, is, falls, and}
@@ -31,13 +27,6 @@ use Rattle.memory.proofs.words.node_at.Reads as node-at-reads
 use Rattle.query.proofs.walk.walk_chain.Reads as walk-chain-reads
 use Rattle.query.proofs.walk.+walk_group+walk_node.{statement}
 use Rattle.query.proofs.walk.+walk_group+walk_node.Tie.{close}
-
--- what the node's test says of its count
-not-branch : (nodes : List ℕ) (a : ℕ) {w : Node} {b : Bool} → w ≡ nodeAt nodes a → b ≡ eqb (w .count) branchMark → not b ≡ true → countAt nodes a ≡ branchMark → ⊥
-not-branch nodes a {w} {b} e f n h = eqb-false (w .count) branchMark (sym f ∙ not-true b n) (ap (λ (x : Node). x .count) e ∙ h)
-
-is-branch : (nodes : List ℕ) (a : ℕ) {w : Node} {b : Bool} → w ≡ nodeAt nodes a → b ≡ eqb (w .count) branchMark → not b ≡ false → countAt nodes a ≡ branchMark
-is-branch nodes a {w} {b} e f n = sym (ap (λ (x : Node). x .count) e) ∙ eqb-true (w .count) branchMark (sym f ∙ not-false b n)
 
 abbrev μ-walk-group : Measures 4 walk-group-kinds.ps ℕ
 μ-walk-group κs a = 7 * a .1 .1 .1 .1 .1 .1 .1 .1 .1 .1 .0 + 1 + a .1 .1 .1 .1 .1 .1 .1 .1 .1 .1 .1 .0

@@ -1,6 +1,5 @@
 -- The id is stored where the position is below the room.
-use borrow.Author.Tests.{lt-ltb, le-ltb}
-use Rattle.query.specs.Rows.{kept}
+use Rattle.query.specs.Rows.{kept-in, kept-out}
 use borrow.Author.Needs.{needs}
 use Rattle.query.proofs.walk.keep.Statement.{statement}
 use Rattle.query.proofs.walk.keep.Tie as tie
@@ -15,12 +14,10 @@ same-length : tie.Need-same-length
 same-length c = search needs
 
 returns : tie.Need-returns
-unfolding kept
-returns c = simp (lt-ltb _ _ (c .if1 .taken))
+returns c = kept-in _ _ _ _ (c .if1 .taken)
 
 returns-2 : tie.Need-returns-2
-unfolding kept
-returns-2 c = simp (le-ltb _ _ (c .if1 .left))
+returns-2 c = kept-out _ _ _ _ (c .if1 .left)
 
 pub keep-spec : {M : Type 1} → statement M
 keep-spec = tie.close (tie.spec mul-row slice-write-row same-length returns returns-2)

@@ -1,0 +1,79 @@
+// Leaves: six numbers a leaf, in the order of the walk, children 0 skipped.
+ghost use mathlib.Core.Path.{_≡_};
+ghost use Prim.Native.Nat.{_+_, _≤_};
+ghost use lib.ListN.{length};
+ghost use Rattle.tree.specs.Operations.{IsTree};
+ghost use Rattle.query.specs.Rows.{kept, keptAll};
+ghost use Rattle.query.specs.Leaves.{wordsOf, LeafWalk, LeafGroup, LeafWalked, LeafGroupWalked};
+use geometry::node_data::NodeData;
+use memory::words::node_at;
+
+// Writes a number at a position of the row, where there is room.
+fn keep_number(row: &mut [i32], room: usize, at: usize, number: i32)
+    requires { ⌜ room ≤ length (now row) ⌝ }
+    ensures { λ _. ⌜ now (row .exit) ≡ kept room (now (row .entry)) at number ⌝ }
+{
+    if at < room {
+        row[at] = number;
+    }
+}
+
+// The six numbers of a leaf: centre, half sizes, depth, count. The position after them.
+fn keep_leaf(row: &mut [i32], room: usize, at: usize, nd: NodeData, count: u32) -> usize
+    requires { ⌜ (room ≤ length (now row)) × (at ≤ 1000000) × (nd .depth ≤ 255) × (count ≤ 65536) ⌝ }
+    ensures { λ r. ⌜ (r ≡ at + 6) × (now (row .exit) ≡ keptAll room (now (row .entry)) at (wordsOf nd count)) ⌝ }
+{
+    let cell = nd.cell;
+    keep_number(row, room, at, cell.center_x);
+    keep_number(row, room, at + 1, cell.center_y);
+    keep_number(row, room, at + 2, cell.half_width);
+    keep_number(row, room, at + 3, cell.half_height);
+    keep_number(row, room, at + 4, nd.depth as i32);
+    keep_number(row, room, at + 5, count as i32);
+    at + 6
+}
+
+// A node's leaves: its own numbers, or those of its group.
+fn leaf_node(
+    nd: NodeData,
+    nodes: &[u32],
+    row: &mut [i32],
+    room: usize,
+    at: usize,
+    node: usize,
+    levels: u32,
+) -> usize
+    requires { ⌜ LeafWalk nd (now nodes) room (now row) at node levels ⌝ }
+    ensures { λ r. ⌜ LeafWalked nd (now (nodes .entry)) room (now (row .entry)) at node levels (now (row .exit)) r ⌝ }
+{
+    let words = node_at(nodes, node);
+    if !words.is_branch() {
+        return keep_leaf(row, room, at, nd, words.count);
+    }
+    let first = words.first as usize;
+    leaf_group(nd, nodes, row, room, at, first, levels - 1, 4)
+}
+
+// The leaves of the last `left` children of a group.
+fn leaf_group(
+    nd: NodeData,
+    nodes: &[u32],
+    row: &mut [i32],
+    room: usize,
+    at: usize,
+    first: usize,
+    levels: u32,
+    left: u32,
+) -> usize
+    requires { ⌜ LeafGroup nd (now nodes) room (now row) at first levels left ⌝ }
+    ensures { λ r. ⌜ LeafGroupWalked nd (now (nodes .entry)) room (now (row .entry)) at first levels left (now (row .exit)) r ⌝ }
+{
+    if left == 0 {
+        return at;
+    }
+    let child = 5 - left;
+    let below = nd.child(child);
+    let node = first + child as usize;
+    let next = leaf_node(below, nodes, row, room, at, node, levels);
+    leaf_group(nd, nodes, row, room, next, first, levels, left - 1)
+}
