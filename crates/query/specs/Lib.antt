@@ -8,3 +8,4 @@ pub mod Answers
 pub mod Queries
 pub mod Leaves
 pub mod LeafLaws
+pub mod LeafQueries

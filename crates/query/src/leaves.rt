@@ -2,11 +2,18 @@
 ghost use mathlib.Core.Path.{_≡_};
 ghost use Prim.Native.Nat.{_+_, _≤_};
 ghost use lib.ListN.{length};
-ghost use Rattle.tree.specs.Operations.{IsTree};
 ghost use Rattle.query.specs.Rows.{kept, keptAll};
+ghost use Rattle.query.specs.Answers.{HasTree, LeavesMet, LeavesListed, leafReply};
 ghost use Rattle.query.specs.Leaves.{wordsOf, LeafWalk, LeafGroup, LeafWalked, LeafGroupWalked};
 use geometry::node_data::NodeData;
 use memory::words::node_at;
+use model::State;
+
+// Refused 8, with how many leaves there are; or how many the row now begins with.
+pub enum LeafListing {
+    TooMany(u32),
+    Listed(u32),
+}
 
 // Writes a number at a position of the row, where there is room.
 fn keep_number(row: &mut [i32], room: usize, at: usize, number: i32)
@@ -76,4 +83,31 @@ fn leaf_group(
     let node = first + child as usize;
     let next = leaf_node(below, nodes, row, room, at, node, levels);
     leaf_group(nd, nodes, row, room, next, first, levels, left - 1)
+}
+
+// The numbers of all leaves, written to the first `room` words of the row; how many numbers there are.
+fn list_leaves(state: State, nodes: &[u32], row: &mut [i32], room: usize) -> usize
+    requires { ⌜ HasTree state (now nodes) × (room ≤ length (now row)) ⌝ }
+    ensures { λ r. ⌜ LeavesMet state (now (nodes .entry)) room (now (row .entry)) (now (row .exit)) r ⌝ }
+{
+    let settings = state.settings;
+    let root = NodeData::root(settings);
+    let levels = settings.deepest();
+    leaf_node(root, nodes, row, room, 0, 0, levels)
+}
+
+// Lists the leaves, where they fit the row: they are counted first.
+pub fn leaves_row(state: State, nodes: &[u32], row: &mut [i32]) -> LeafListing
+    requires { ⌜ HasTree state (now nodes) ⌝ }
+    ensures { λ r. ⌜ LeavesListed state (now (nodes .entry)) (now (row .entry)) (now (row .exit)) (leafReply r) ⌝ }
+{
+    let mut none = [0i32; 1];
+    let words = list_leaves(state, nodes, &mut none, 0);
+    let number = (words / 6) as u32;
+    let room = row.len();
+    if room < words {
+        return LeafListing::TooMany(number);
+    }
+    list_leaves(state, nodes, row, room);
+    LeafListing::Listed(number)
 }
