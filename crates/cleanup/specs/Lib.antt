@@ -1,0 +1,3 @@
+-- The cleanup's walk.
+pub mod Walks
+pub mod Laws
