@@ -288,7 +288,6 @@ module _ (nodes : List ℕ) (swept : Swept) (first levels left : ℕ) (some : 1 
   sum-suc : (h : ℕ → ℕ) → sumBelow left h ≡ sumBelow (left - 1) h + h (left - 1)
   sum-suc h = ap (λ (k : ℕ). sumBelow k h) left-is
 
-
   pub group-node : GroupWalk nodes swept first levels left → NodeWalk nodes swept (first + (left - 1)) levels
   group-node w =
       let i = left - 1 in

@@ -2,10 +2,13 @@
 ghost use mathlib.Core.Path.{_≡_};
 ghost use Prim.Native.Nat.{_+_};
 ghost use Rattle.memory.specs.Rows.{HasNode};
+ghost use Rattle.query.specs.Answers.{HasTree};
+ghost use Rattle.cleanup.specs.Answers.{CleanedUp};
 ghost use Rattle.cleanup.specs.Walks.{HasGroup, emptyGroup, turnedNodes, NodeWalk, NodeCleaned, GroupWalk, GroupCleaned};
 use memory::node::Node;
 use memory::words::node_at;
 use memory::words::set_node;
+use model::State;
 
 // The head of the free groups, and how many branches were turned.
 pub struct Swept {
@@ -73,4 +76,27 @@ fn clean_group(nodes: &mut [u32], swept: Swept, first: usize, levels: u32, left:
     let node = first + (left - 1) as usize;
     let next = clean_node(nodes, swept, node, levels);
     clean_group(nodes, next, first, levels, left - 1)
+}
+
+// Whether a branch was turned, and the state after it.
+pub struct Cleaning {
+    pub yes: bool,
+    pub state: State,
+}
+
+pub fn cleanup_tree(state: State, nodes: &mut [u32]) -> Cleaning
+    requires { ⌜ HasTree state (now nodes) ⌝ }
+    ensures { λ r. ⌜ CleanedUp state (now (nodes .entry)) (now (nodes .exit)) r ⌝ }
+{
+    let settings = state.settings;
+    let levels = settings.deepest();
+    let start = Swept {
+        head: state.free_group,
+        turned: 0,
+    };
+    let swept = clean_node(nodes, start, 0, levels);
+    Cleaning {
+        yes: 0 < swept.turned,
+        state: state.changed(swept.head, state.free_place, state.live),
+    }
 }

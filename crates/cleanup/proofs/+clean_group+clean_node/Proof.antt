@@ -47,7 +47,6 @@ abbrev clean-node-below : ℕ → In 1 clean-node-kinds.ps
 clean-node-below t =
     and 1 clean-node-kinds.ps (falls 1 clean-node-kinds.ps _<_ μ-clean-node t) clean-node.Pre
 
--- src/lib.rt:71:9
 clean-group-returns : (t : ℕ) → clean-group-lts.Need-returns (
   clean-node-below t,
   clean-node.Post,
@@ -56,7 +55,6 @@ clean-group-returns : (t : ℕ) → clean-group-lts.Need-returns (
 ) (clean-group-at t) clean-group.Post
 clean-group-returns t c = let a = c .before .before .args in group-none (a .nodes .now) (a .swept) (a .first) (a .levels) (a .left) (c .if1 .taken)
 
--- src/lib.rt:73:25
 clean-group-sub-node : (t : ℕ) → clean-group-lts.Need-sub-node (
   clean-node-below t,
   clean-node.Post,
@@ -65,7 +63,6 @@ clean-group-sub-node : (t : ℕ) → clean-group-lts.Need-sub-node (
 ) (clean-group-at t) clean-group.Post
 clean-group-sub-node t c = omega (arith, c .if1 .left)
 
--- src/lib.rt:73:24
 clean-group-cast-node : (t : ℕ) → clean-group-lts.Need-cast-node (
   clean-node-below t,
   clean-node.Post,
@@ -74,7 +71,6 @@ clean-group-cast-node : (t : ℕ) → clean-group-lts.Need-cast-node (
 ) (clean-group-at t) clean-group.Post
 clean-group-cast-node t c = search needs
 
--- src/lib.rt:73:16
 clean-group-add-node : (t : ℕ) → clean-group-lts.Need-add-node (
   clean-node-below t,
   clean-node.Post,
@@ -86,7 +82,6 @@ clean-group-add-node t c = let a = c .before .before .args in
     let w = group-node (a .nodes .now) (a .swept) (a .first) (a .levels) (a .left) some (c .before .before .pre .1) in
     omega (arith, node-in (a .nodes .now) (a .swept) (a .first + (a .left - 1)) (a .levels) (w .tree) (w .fits))
 
--- src/lib.rt:74:9
 clean-group-clean-node-requires : (t : ℕ) → clean-group-lts.Need-clean-node-requires (
   clean-node-below t,
   clean-node.Post,
@@ -97,7 +92,6 @@ clean-group-clean-node-requires t c κs = let a = c .before .before .before .arg
     let some : 1 ≤ a .left = omega (arith, c .before .if1 .left) in
     (omega (arith, c .before .before .before .pre .0), group-node (a .nodes .now) (a .swept) (a .first) (a .levels) (a .left) some (c .before .before .before .pre .1))
 
--- src/lib.rt:75:45
 clean-group-sub-clean-group : (t : ℕ) → clean-group-lts.Need-sub-clean-group (
   clean-node-below t,
   clean-node.Post,
@@ -106,7 +100,6 @@ clean-group-sub-clean-group : (t : ℕ) → clean-group-lts.Need-sub-clean-group
 ) (clean-group-at t) clean-group.Post
 clean-group-sub-clean-group t c = omega arith
 
--- src/lib.rt:75:5
 clean-group-clean-group-requires : (t : ℕ) → clean-group-lts.Need-clean-group-requires (
   clean-node-below t,
   clean-node.Post,
@@ -117,7 +110,6 @@ clean-group-clean-group-requires t c κs = let a = c .before .before .before .be
     let some : 1 ≤ a .left = omega (arith, c .before .before .before .before .before .if1 .left) in
     (omega (arith, c .before .before .before .before .before .before .before .pre .0), group-rest (a .nodes .now) (a .swept) (a .first) (a .levels) (a .left) some _ (c .before .before .before .clean-node .result) (c .before .before .before .clean-node .kept .0) (c .before .before .before .clean-node .ensures) (c .before .before .before .before .before .before .before .pre .1))
 
--- src/lib.rt:66:1
 clean-group-same-length : (t : ℕ) → clean-group-lts.Need-same-length (
   clean-node-below t,
   clean-node.Post,
@@ -126,7 +118,6 @@ clean-group-same-length : (t : ℕ) → clean-group-lts.Need-same-length (
 ) (clean-group-at t) clean-group.Post
 clean-group-same-length t c = c .before .before .clean-group .kept .0 ∙ c .before .before .before .before .before .before .clean-node .kept .0
 
--- src/lib.rt:66:1
 clean-group-returns-2 : (t : ℕ) → clean-group-lts.Need-returns-2 (
   clean-node-below t,
   clean-node.Post,
@@ -137,7 +128,6 @@ clean-group-returns-2 t c = let a = c .before .before .before .before .before .b
     let some : 1 ≤ a .left = omega (arith, c .before .before .before .before .before .before .before .before .if1 .left) in
     group-cleaned (a .nodes .now) (a .swept) (a .first) (a .levels) (a .left) some _ (c .before .before .before .before .before .before .clean-node .result) (c .before .before .before .before .before .before .clean-node .kept .0) (c .before .before .before .before .before .before .clean-node .ensures) _ _ (c .before .before .clean-group .ensures)
 
--- src/lib.rt:50:9
 clean-node-node-at-requires : (t : ℕ) → clean-node-lts.Need-node-at-requires (
   node-at-reads.Asked,
   node-at-reads.Learnt,
@@ -154,7 +144,6 @@ clean-node-node-at-requires t c κs = let a = c .before .before .args in
     let p = c .before .before .pre .1 in
     node-in (a .nodes .now) (a .swept) (a .node) (a .levels) (p .tree) (p .fits)
 
--- src/lib.rt:51:9
 clean-node-is-branch-requires : (t : ℕ) → clean-node-lts.Need-is-branch-requires (
   node-at-reads.Asked,
   node-at-reads.Learnt,
@@ -169,7 +158,6 @@ clean-node-is-branch-requires : (t : ℕ) → clean-node-lts.Need-is-branch-requ
 ) (clean-node-at t) clean-node.Post
 clean-node-is-branch-requires t c κs = search needs
 
--- src/lib.rt:52:9
 clean-node-same-length : (t : ℕ) → clean-node-lts.Need-same-length (
   node-at-reads.Asked,
   node-at-reads.Learnt,
@@ -184,7 +172,6 @@ clean-node-same-length : (t : ℕ) → clean-node-lts.Need-same-length (
 ) (clean-node-at t) clean-node.Post
 clean-node-same-length t c = search needs
 
--- src/lib.rt:52:9
 clean-node-returns : (t : ℕ) → clean-node-lts.Need-returns (
   node-at-reads.Asked,
   node-at-reads.Learnt,
@@ -200,7 +187,6 @@ clean-node-returns : (t : ℕ) → clean-node-lts.Need-returns (
 clean-node-returns t c = let a = c .before .before .before .before .before .args in
     leaf-cleaned (a .nodes .now) (a .swept) (a .node) (a .levels) (not-branch (a .nodes .now) (a .node) (c .before .before .node-at .ensures) (c .before .is-branch .ensures) (c .if1 .taken))
 
--- src/lib.rt:54:17
 clean-node-cast-first : (t : ℕ) → clean-node-lts.Need-cast-first (
   node-at-reads.Asked,
   node-at-reads.Learnt,
@@ -215,7 +201,6 @@ clean-node-cast-first : (t : ℕ) → clean-node-lts.Need-cast-first (
 ) (clean-node-at t) clean-node.Post
 clean-node-cast-first t c = search needs
 
--- src/lib.rt:55:8
 clean-node-is-empty-group-requires : (t : ℕ) → clean-node-lts.Need-is-empty-group-requires (
   node-at-reads.Asked,
   node-at-reads.Learnt,
@@ -232,7 +217,6 @@ clean-node-is-empty-group-requires t c κs = let a = c .before .before .before .
     let b = is-branch (a .nodes .now) (a .node) (c .before .before .before .before .node-at .ensures) (c .before .before .before .is-branch .ensures) (c .before .before .if1 .left) in
     subst (λ (x : Node). HasGroup (a .nodes .now) (x .first)) (sym (c .before .before .before .before .node-at .ensures)) (branch-in (a .nodes .now) (a .swept) (a .node) (a .levels) b (c .before .before .before .before .before .before .before .pre .1))
 
--- src/lib.rt:56:9
 clean-node-turn-requires : (t : ℕ) → clean-node-lts.Need-turn-requires (
   node-at-reads.Asked,
   node-at-reads.Learnt,
@@ -251,7 +235,6 @@ clean-node-turn-requires t c κs = let a = c .before .before .before .before .be
     let g : HasGroup (a .nodes .now) (c .before .before .before .before .before .before .before .node-at .result .first) = subst (λ (x : Node). HasGroup (a .nodes .now) (x .first)) (sym (c .before .before .before .before .before .before .before .node-at .ensures)) (branch-in (a .nodes .now) (a .swept) (a .node) (a .levels) b p) in
     (node-in (a .nodes .now) (a .swept) (a .node) (a .levels) (p .tree) (p .fits), omega (arith, g))
 
--- src/lib.rt:59:21
 clean-node-add-t17 : (t : ℕ) → clean-node-lts.Need-add-t17 (
   node-at-reads.Asked,
   node-at-reads.Learnt,
@@ -267,7 +250,6 @@ clean-node-add-t17 : (t : ℕ) → clean-node-lts.Need-add-t17 (
 clean-node-add-t17 t c = let a = c .before .before .before .before .before .before .before .before .before .before .before .before .before .before .args in
     omega (arith, branch-room (a .nodes .now) (a .swept) (a .node) (a .levels) (is-branch (a .nodes .now) (a .node) (c .before .before .before .before .before .before .before .before .before .before .before .node-at .ensures) (c .before .before .before .before .before .before .before .before .before .before .is-branch .ensures) (c .before .before .before .before .before .before .before .before .before .if1 .left)) (c .before .before .before .before .before .before .before .before .before .before .before .before .before .before .pre .1))
 
--- src/lib.rt:57:9
 clean-node-same-length-2 : (t : ℕ) → clean-node-lts.Need-same-length-2 (
   node-at-reads.Asked,
   node-at-reads.Learnt,
@@ -282,7 +264,6 @@ clean-node-same-length-2 : (t : ℕ) → clean-node-lts.Need-same-length-2 (
 ) (clean-node-at t) clean-node.Post
 clean-node-same-length-2 t c = c .before .before .before .turn .kept .0
 
--- src/lib.rt:57:9
 clean-node-returns-2 : (t : ℕ) → clean-node-lts.Need-returns-2 (
   node-at-reads.Asked,
   node-at-reads.Learnt,
@@ -302,7 +283,6 @@ clean-node-returns-2 t c = let a = c .before .before .before .before .before .be
     (subst (λ (x : Node). NodeCleaned (a .nodes .now) (a .swept) (a .node) (a .levels) (turnedNodes (a .nodes .now) (a .node) (x .first) (a .swept .head)) (record { head = x .first; turned = a .swept .turned + 1 })) (sym (c .before .before .before .before .before .before .before .before .before .before .before .node-at .ensures))
     (turned-cleaned (a .nodes .now) (a .swept) (a .node) (a .levels) b test))
 
--- src/lib.rt:62:38
 clean-node-sub-clean-group : (t : ℕ) → clean-node-lts.Need-sub-clean-group (
   node-at-reads.Asked,
   node-at-reads.Learnt,
@@ -318,7 +298,6 @@ clean-node-sub-clean-group : (t : ℕ) → clean-node-lts.Need-sub-clean-group (
 clean-node-sub-clean-group t c = let a = c .before .before .before .before .before .before .before .before .before .before .args in
     branch-levels (a .nodes .now) (a .swept) (a .node) (a .levels) (is-branch (a .nodes .now) (a .node) (c .before .before .before .before .before .before .before .node-at .ensures) (c .before .before .before .before .before .before .is-branch .ensures) (c .before .before .before .before .before .if1 .left)) (c .before .before .before .before .before .before .before .before .before .before .pre .1)
 
--- src/lib.rt:62:5
 clean-node-clean-group-requires : (t : ℕ) → clean-node-lts.Need-clean-group-requires (
   node-at-reads.Asked,
   node-at-reads.Learnt,
@@ -333,11 +312,11 @@ clean-node-clean-group-requires : (t : ℕ) → clean-node-lts.Need-clean-group-
 ) (clean-node-at t) clean-node.Post
 clean-node-clean-group-requires t c κs = let a = c .before .before .before .before .before .before .before .before .before .before .args in
     let b = is-branch (a .nodes .now) (a .node) (c .before .before .before .before .before .before .before .node-at .ensures) (c .before .before .before .before .before .before .is-branch .ensures) (c .before .before .before .before .before .if1 .left) in
-    let one = branch-levels (a .nodes .now) (a .swept) (a .node) (a .levels) b (c .before .before .before .before .before .before .before .before .before .before .pre .1) in
-    (omega (arith, c .before .before .before .before .before .before .before .before .before .before .pre .0, one),
-    subst (λ (x : Node). GroupWalk (a .nodes .now) (a .swept) (x .first) (a .levels - 1) 5) (sym (c .before .before .before .before .before .before .before .node-at .ensures)) (branch-group (a .nodes .now) (a .swept) (a .node) (a .levels) b (c .before .before .before .before .before .before .before .before .before .before .pre .1)))
+    let one = branch-levels (a .nodes .now) (a .swept) (a .node) (a .levels) b (c .before .before .before .before .before .before .before .before .before .before .pre .1) in (
+      omega (arith, c .before .before .before .before .before .before .before .before .before .before .pre .0, one),
+      subst (λ (x : Node). GroupWalk (a .nodes .now) (a .swept) (x .first) (a .levels - 1) 5) (sym (c .before .before .before .before .before .before .before .node-at .ensures)) (branch-group (a .nodes .now) (a .swept) (a .node) (a .levels) b (c .before .before .before .before .before .before .before .before .before .before .pre .1)),
+    )
 
--- src/lib.rt:46:1
 clean-node-same-length-3 : (t : ℕ) → clean-node-lts.Need-same-length-3 (
   node-at-reads.Asked,
   node-at-reads.Learnt,
@@ -352,7 +331,6 @@ clean-node-same-length-3 : (t : ℕ) → clean-node-lts.Need-same-length-3 (
 ) (clean-node-at t) clean-node.Post
 clean-node-same-length-3 t c = c .before .before .clean-group .kept .0
 
--- src/lib.rt:46:1
 clean-node-returns-3 : (t : ℕ) → clean-node-lts.Need-returns-3 (
   node-at-reads.Asked,
   node-at-reads.Learnt,

@@ -5,51 +5,37 @@ use Rattle.cleanup.specs.Walks.{emptyGroup}
 use borrow.Author.Needs.{needs}
 use Rattle.cleanup.proofs.is_empty_group.Statement.{statement}
 use Rattle.cleanup.proofs.is_empty_group.Tie as tie
-use Rattle.cleanup.proofs.is_empty_group.Reads as reads
-use Rattle.cleanup.proofs.is_empty_group.Lts as lts
-use Rattle.memory.proofs.words.node_at.Reads as node-at-reads
 
--- src/lib.rt:21:28
 add-node-at : tie.Need-add-node-at
 add-node-at c = search needs
 
--- src/lib.rt:21:13
 node-at-requires : tie.Need-node-at-requires
 node-at-requires c κs = search needs
 
--- src/lib.rt:22:28
 add-node-at-2 : tie.Need-add-node-at-2
 add-node-at-2 c = search needs
 
--- src/lib.rt:22:13
 node-at-requires-2 : tie.Need-node-at-requires-2
 node-at-requires-2 c κs = search needs
 
--- src/lib.rt:23:28
 add-node-at-3 : tie.Need-add-node-at-3
 add-node-at-3 c = search needs
 
--- src/lib.rt:23:13
 node-at-requires-3 : tie.Need-node-at-requires-3
 node-at-requires-3 c κs = search needs
 
--- src/lib.rt:24:28
 add-node-at-4 : tie.Need-add-node-at-4
 add-node-at-4 c = search needs
 
--- src/lib.rt:24:13
 node-at-requires-4 : tie.Need-node-at-requires-4
 node-at-requires-4 c κs = search needs
 
--- src/lib.rt:25:28
 add-node-at-5 : tie.Need-add-node-at-5
 add-node-at-5 c = search needs
 
--- src/lib.rt:25:13
 node-at-requires-5 : tie.Need-node-at-requires-5
 node-at-requires-5 c κs = search needs
 
--- src/lib.rt:17:1
 returns : tie.Need-returns
 unfolding emptyGroup
 returns c = let a₀ = c .before .before .before .before .before .before .before .before .before .node-at .ensures in

@@ -7,28 +7,19 @@ use Rattle.cleanup.specs.Walks.{turnedNodes}
 use borrow.Author.Needs.{needs}
 use Rattle.cleanup.proofs.turn.Statement.{statement}
 use Rattle.cleanup.proofs.turn.Tie as tie
-use Rattle.cleanup.proofs.turn.Reads as reads
-use Rattle.cleanup.proofs.turn.Lts as lts
-use Rattle.memory.proofs.node.Node.empty_leaf.Reads as empty-leaf-reads
-use Rattle.memory.proofs.words.set_node.Reads as set-node-reads
 
--- src/lib.rt:34:27
 empty-leaf-requires : tie.Need-empty-leaf-requires
 empty-leaf-requires c κs = search needs
 
--- src/lib.rt:34:5
 set-node-requires : tie.Need-set-node-requires
 set-node-requires c κs = search needs
 
--- src/lib.rt:35:5
 set-node-requires-2 : tie.Need-set-node-requires-2
 set-node-requires-2 c κs = search needs
 
--- src/lib.rt:30:1
 same-length : tie.Need-same-length
 same-length c = search needs
 
--- src/lib.rt:30:1
 returns : tie.Need-returns
 unfolding turnedNodes
 returns c = let a = c .before .before .before .before .before .before .before .before .before .before .args in
