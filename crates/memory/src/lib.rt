@@ -4,4 +4,5 @@ pub mod lengths;
 pub mod make;
 pub mod marks;
 pub mod node;
+pub mod places;
 pub mod words;

@@ -29,6 +29,10 @@ pub record World : Type 0 where
 abbrev pub world : State → List ℕ → List ℕ → List ℤ → List ℕ → World
 world s nodes dots rects marks = record { state = s; nodes = nodes; dots = dots; rects = rects; marks = marks }
 
+-- a state with other free heads and another live number
+abbrev pub changedState : State → ℕ → ℕ → ℕ → State
+changedState s freeGroup freePlace live = record { settings = s .settings; «free_group» = freeGroup; «free_place» = freePlace; live = live }
+
 -- ---- lengths
 
 -- G and N, read off the lengths

@@ -15,3 +15,9 @@ pub mod Collapses
 pub mod Removals
 pub mod Inserts
 pub mod Joins
+pub mod Operations
+pub mod Readings
+pub mod Routes
+pub mod Chains
+pub mod Answers
+pub mod Removes

@@ -128,7 +128,7 @@ free-zero : (free : List ℕ) → sumOver (overGroup (indicator 0)) free ≡ 0
 free-zero [] = refl
 free-zero (g ∷ gs) = omega (arith, free-zero gs, sumBelow-zero 5 (λ i. indicator 0 (childNode g i)) (λ i b. indicator-other 0 (childNode g i) (λ e. omega arith)))
 
-nodes-all : (t : Tree) (free : List ℕ) → ((k : ℕ) → groupCount k t + sumOver (indicator k) free ≤ 1) → (k : ℕ) → nodeCount k 0 t + sumOver (overGroup (indicator k)) free ≤ 1
+pub nodes-all : (t : Tree) (free : List ℕ) → ((k : ℕ) → groupCount k t + sumOver (indicator k) free ≤ 1) → (k : ℕ) → nodeCount k 0 t + sumOver (overGroup (indicator k)) free ≤ 1
 nodes-all t free o k =
     byDec (ℕ-discrete k 0)
     (λ e. subst (λ (y : ℕ). nodeCount y 0 t + sumOver (overGroup (indicator y)) free ≤ 1) (sym e) (omega (arith, node-zero 0 t, indicator-le 0 0, free-zero free)))

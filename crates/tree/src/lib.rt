@@ -1,1 +1,3 @@
 // The operations on a tree in the lent memory, without the check.
+pub mod find;
+pub mod remove;

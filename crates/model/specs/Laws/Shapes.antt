@@ -1,5 +1,6 @@
 -- Every call keeps a shape valid.
 --     distinct-length      distinct numbers below n are at most n
+--     once-length  a list that has each number below n once has n elements
 --     live-and-free        live dots and free places together are N
 --     valid-height, child-0-leaf, shape-routed     a valid tree is at most D high; its children 0 are leaves; its dots stand where they route to
 --     fresh-valid, inserted-valid, removed-valid, cleaned-valid
@@ -83,7 +84,7 @@ sum-const zero = refl
 sum-const (suc n) = omega (arith, sum-const n)
 
 -- a list that has each number below n once, and no other, has n elements
-once-length : (n : ℕ) (ps : List ℕ) → ((k : ℕ) → count k ps ≡ below k n) → length ps ≡ n
+pub once-length : (n : ℕ) (ps : List ℕ) → ((k : ℕ) → count k ps ≡ below k n) → length ps ≡ n
 once-length n ps o =
     omega (
       arith,

@@ -1,0 +1,101 @@
+-- A walk whose invariant is that every tree that the nodes lead through has a subtree at the node reached, with the same leaf for the rectangle.
+-- The depth rises, or the node becomes a child 0, which is a leaf.
+use mathlib.Core.Path.{_≡_, refl, ap, sym, _∙_, subst}
+use native.Mathlib.Omega.{arith}
+use borrow.Author.Needs.{needs}
+use Rattle.geometry.specs.declared.node_data.NodeData.{NodeData}
+use Rattle.geometry.specs.Cells.{InRange, rootData, childData}
+use Rattle.geometry.specs.Laws.Ranges.{accepted, root-range, child-range}
+use Rattle.model.specs.Layout.{branchMark}
+use Rattle.model.specs.Memory.{countAt}
+use Rattle.memory.specs.declared.node.Node.{Node}
+use Rattle.memory.specs.Nodes.{nodeAt}
+use Rattle.tree.specs.Routes.{Guided, leafFor, guided-has, OnWay, stepsLeft, WayOn, way-on, way-facts, arrived}
+use Rattle.tree.proofs.find.find_leaf.Statement.{statement}
+use Rattle.tree.proofs.find.find_leaf.Tie as tie
+
+abbrev Inv-loop : tie.InvT-loop
+Inv-loop nodes rect node₀ data₀ words₀ node data′ words =
+    (words ≡ nodeAt nodes node) × InRange (data′ .cell) × OnWay nodes rect data₀ data′ node
+
+abbrev μ-loop : tie.MeasureT-loop
+μ-loop nodes rect node₀ data₀ words₀ node data′ words = stepsLeft data′
+
+-- every tree that the nodes lead through, from the node data that the walk began with
+guided-here : (c : tie.After-root Inv-loop μ-loop) → Guided (c .before .before .args .nodes .now) (c .root .result) 0 (c .before .before .pre .tree)
+guided-here c = subst (λ (n : NodeData). Guided (c .before .before .args .nodes .now) n 0 (c .before .before .pre .tree)) (sym (c .root .ensures)) (c .before .before .pre .guided)
+
+branches : (c : tie.Then1 Inv-loop μ-loop) → countAt (c .before .before .before .before .before .before .args .nodes .now) (c .before .before .loop .node) ≡ branchMark
+unfolding branchMark
+branches c = sym (ap (λ (w : Node). w .count) (c .before .before .loop .inv .0)) ∙ c .if1 .taken
+
+facts : (c : tie.After-struct-known2 Inv-loop μ-loop) → WayOn (c .before .before .before .before .before .before .before .before .before .args .nodes .now) (c .before .before .before .before .before .before .before .before .before .args .rect) (c .before .before .before .before .before .before .before .root .result) (c .before .before .before .before .before .loop .«data») (c .before .before .before .before .before .loop .node) (c .before .before .before .before .before .loop .words .first) (c .before .route .result) (c .before .before .before .before .before .loop .inv .2) (branches (c .before .before .before)) (ap (λ (w : Node). w .first) (c .before .before .before .before .before .loop .inv .0)) (c .before .route .ensures)
+facts c = way-facts (c .before .before .before .before .before .before .before .before .before .args .nodes .now) (c .before .before .before .before .before .before .before .before .before .args .rect) (c .before .before .before .before .before .before .before .root .result) (c .before .before .before .before .before .loop .«data») (c .before .before .before .before .before .loop .node) (c .before .before .before .before .before .loop .words .first) (c .before .route .result) (c .before .before .before .before .before .loop .inv .2) (branches (c .before .before .before)) (ap (λ (w : Node). w .first) (c .before .before .before .before .before .loop .inv .0)) (c .before .route .ensures) (c .before .before .before .before .before .before .before .before .before .pre .tree) (guided-here (c .before .before .before .before .before .before .before))
+
+root-requires : tie.Need-root-requires Inv-loop μ-loop
+root-requires c κs = c .before .pre .accepted
+
+node-at-requires : tie.Need-node-at-requires Inv-loop μ-loop
+node-at-requires c κs = guided-has (c .before .before .args .nodes .now) (c .before .before .args .rect) (rootData (c .before .before .args .settings)) 0 (c .before .before .pre .tree) (c .before .before .pre .guided)
+
+loop-holds : tie.Need-loop-holds Inv-loop μ-loop
+unfolding rootData
+loop-holds c = (
+  c .node-at .ensures,
+  subst (λ (n : NodeData). InRange (n .cell)) (sym (c .before .root .ensures)) (root-range _ (accepted _ (c .before .before .before .pre .accepted) .root)),
+  λ t g. (t, g, refl),
+)
+
+route-requires : tie.Need-route-requires Inv-loop μ-loop
+route-requires c κs = search needs
+
+cast-node : tie.Need-cast-node Inv-loop μ-loop
+cast-node c = omega (arith, facts c .node)
+
+cast-node-2 : tie.Need-cast-node-2 Inv-loop μ-loop
+cast-node-2 c = omega (arith, facts c .child)
+
+add-node : tie.Need-add-node Inv-loop μ-loop
+add-node c = omega (arith, facts c .node)
+
+child-requires : tie.Need-child-requires Inv-loop μ-loop
+child-requires c κs = (c .before .before .before .before .before .loop .inv .1, omega (arith, facts c .depth))
+
+node-at-requires-2 : tie.Need-node-at-requires-2 Inv-loop μ-loop
+node-at-requires-2 c κs = facts (c .before) .node
+
+loop-less : tie.Need-loop-less Inv-loop μ-loop
+loop-less c = facts (c .before .before) .less (c .before .child .result) (c .before .child .ensures)
+
+loop-again : tie.Need-loop-again Inv-loop μ-loop
+unfolding childData
+loop-again c = (
+  c .node-at2 .ensures,
+  subst (λ (n : NodeData). InRange (n .cell)) (sym (c .before .child .ensures)) (child-range _ _ (c .before .before .before .before .before .before .before .loop .inv .1)),
+  way-on (c .before .before .before .before .before .before .before .before .before .before .before .args .nodes .now) (c .before .before .before .before .before .before .before .before .before .before .before .args .rect) (c .before .before .before .before .before .before .before .before .before .root .result) (c .before .before .before .before .before .before .before .loop .«data») (c .before .before .before .before .before .before .before .loop .node) (c .before .before .before .before .before .before .before .loop .words .first) (c .before .before .before .route .result) (c .before .before .before .before .before .before .before .loop .inv .2) (branches (c .before .before .before .before .before)) (ap (λ (w : Node). w .first) (c .before .before .before .before .before .before .before .loop .inv .0)) (c .before .before .before .route .ensures) (c .before .child .result) (c .before .child .ensures),
+)
+
+returns : tie.Need-returns Inv-loop μ-loop
+unfolding branchMark
+returns c = λ t g.
+    let o = c .before .before .loop .inv .2 t (subst (λ (n : NodeData). Guided (c .before .before .before .before .before .before .args .nodes .now) n 0 t) (sym (c .before .before .before .before .root .ensures)) g) in
+    sym (ap (λ (n : NodeData). leafFor (c .before .before .before .before .before .before .args .rect) n 0 t) (sym (c .before .before .before .before .root .ensures)) ∙ o .2 ∙ arrived (c .before .before .before .before .before .before .args .nodes .now) (c .before .before .before .before .before .before .args .rect) _ _ (o .0) (o .1) (λ e. c .if1 .left (ap (λ (w : Node). w .count) (c .before .before .loop .inv .0) ∙ e)))
+
+pub find-leaf-spec : {M : Type 1} → statement M
+find-leaf-spec =
+    tie.close
+    (tie.spec
+    Inv-loop
+    μ-loop
+    root-requires
+    node-at-requires
+    loop-holds
+    route-requires
+    cast-node
+    cast-node-2
+    add-node
+    child-requires
+    node-at-requires-2
+    loop-less
+    loop-again
+    returns)

@@ -1,0 +1,47 @@
+-- The rows read as memory: what a store into a row is there.
+--     read         the memory that three rows hold
+--     node-stored, next-stored, dot-stored     one law a kind of store
+use mathlib.Core.Path.{_≡_, ap, _∙_}
+use mathlib.Core.List.{List}
+use Prim.Native.Nat.{ℕ}
+use lib.IntN.{ℤ}
+use Rattle.geometry.specs.declared.aabb.AABB.{AABB}
+use Rattle.model.specs.declared.Dot.{Dot}
+use Rattle.model.specs.Sums.{changed, changed-same, changed-other}
+use Rattle.model.specs.Memory.{Mem, firstAt, countAt, idAt, nextAt, rectAt, dotAt}
+use Rattle.memory.specs.declared.node.Node.{Node}
+use Rattle.memory.specs.Rows.{HasNode, HasPlace, HasRect, setNodeAt, setNextAt, setIdAt, setRectAt}
+use Rattle.memory.specs.Laws.{changed-by, first-set, count-set, next-set, id-set, id-next, next-id, rect-set}
+use Rattle.tree.specs.Stores.{setFirst, setCount, setDot, setNext}
+
+abbrev pub read : List ℕ → List ℕ → List ℤ → Mem
+read nodes dots rects = record { first = firstAt nodes; count = countAt nodes; dot = dotAt dots rects; next = nextAt dots }
+
+-- a node's two words
+abbrev pub setNode : Mem → ℕ → Node → Mem
+setNode m a v = setCount (setFirst m a (v .first)) a (v .count)
+
+module _ (nodes dots : List ℕ) (rects : List ℤ) where
+  pub node-stored : (a : ℕ) (v : Node) → HasNode nodes a → read (setNodeAt nodes a v) dots rects ≡ setNode (read nodes dots rects) a v
+  node-stored a v h =
+      let f = first-set nodes a v h in
+      let c = count-set nodes a v h in
+      λ i. record { first = f i; count = c i; dot = dotAt dots rects; next = nextAt dots }
+
+  pub next-stored : (p v : ℕ) → HasPlace dots p → read nodes (setNextAt dots p v) rects ≡ setNext (read nodes dots rects) p v
+  next-stored p v h =
+      let n = next-set dots p v h in
+      let d = id-next dots p v in
+      λ i. record { first = firstAt nodes; count = countAt nodes; dot = λ k. record { id = d i k; rect = rectAt rects k }; next = n i }
+
+  pub dot-stored : (p : ℕ) (d : Dot) → HasPlace dots p → HasRect rects p
+      → read nodes (setIdAt dots p (d .id)) (setRectAt rects p (d .rect)) ≡ setDot (read nodes dots rects) p d
+  dot-stored p d h hr =
+      let ids = id-set dots p (d .id) h in
+      let rs = rect-set rects p (d .rect) hr in
+      let n = next-id dots p (d .id) in
+      let both : dotAt (setIdAt dots p (d .id)) (setRectAt rects p (d .rect)) ≡ changed (dotAt dots rects) p d =
+      changed-by (dotAt dots rects) (dotAt (setIdAt dots p (d .id)) (setRectAt rects p (d .rect))) p d
+      (λ i. record { id = (ap (λ (f : ℕ → ℕ). f p) ids ∙ changed-same (idAt dots) p (d .id)) i; rect = (ap (λ (f : ℕ → AABB). f p) rs ∙ changed-same (rectAt rects) p (d .rect)) i })
+      (λ k ne i. record { id = (ap (λ (f : ℕ → ℕ). f k) ids ∙ changed-other (idAt dots) p (d .id) k ne) i; rect = (ap (λ (f : ℕ → AABB). f k) rs ∙ changed-other (rectAt rects) p (d .rect) k ne) i }) in
+      λ i. record { first = firstAt nodes; count = countAt nodes; dot = both i; next = n i }
