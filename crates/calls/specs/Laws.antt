@@ -1,2 +1,4 @@
--- Laws of the public calls, a file a call.
+-- Laws of the public calls.
+pub mod Pattern
 pub mod References
+pub mod Calls

@@ -1,7 +1,7 @@
 // References: the dots in all leaves.
 ghost use Rattle.model.specs.Layout.{world};
 ghost use Rattle.model.specs.Calls.{References};
-ghost use Rattle.calls.specs.References.{replyOf};
+ghost use Rattle.calls.specs.Answers.{referencesReply};
 use model::State;
 use tree_check::check::check;
 
@@ -19,7 +19,7 @@ pub fn references(
     rects: &[i32],
     marks: &mut [u8],
 ) -> Counted
-    ensures { λ r. ⌜ References (world state (now (nodes .entry)) (now (dots .entry)) (now (rects .entry)) (now (marks .entry))) (world state (now (nodes .exit)) (now (dots .exit)) (now (rects .exit)) (now (marks .exit))) (replyOf r) ⌝ }
+    ensures { λ r. ⌜ References (world state (now (nodes .entry)) (now (dots .entry)) (now (rects .entry)) (now (marks .entry))) (world state (now (nodes .exit)) (now (dots .exit)) (now (rects .exit)) (now (marks .exit))) (referencesReply r) ⌝ }
 {
     let refusal = check(state, nodes, dots, rects, marks);
     if refusal != 0 {

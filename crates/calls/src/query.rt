@@ -1,0 +1,59 @@
+// Query and all: the ids of the dots that a rectangle meets, in the row that the caller lends.
+ghost use Rattle.model.specs.Layout.{world};
+ghost use Rattle.model.specs.Calls.{Query, All};
+ghost use Rattle.calls.specs.Answers.{queryReply};
+use geometry::aabb::AABB;
+use model::State;
+use tree_check::check::check;
+use tree_query::query::Listing;
+use tree_query::query::query_row;
+
+// A refusal; refusal 8, with how many ids there are; or how many ids the row now begins with, and the nodes opened.
+pub enum QueryAnswer {
+    Refused(u32),
+    TooMany(u32),
+    Listed(u32, u32),
+}
+
+pub fn query(
+    state: State,
+    nodes: &[u32],
+    dots: &[u32],
+    rects: &[i32],
+    marks: &mut [u8],
+    rect: AABB,
+    row: &mut [u32],
+) -> QueryAnswer
+    ensures { λ r. ⌜ Query (world state (now (nodes .entry)) (now (dots .entry)) (now (rects .entry)) (now (marks .entry))) rect (now (row .entry)) (world state (now (nodes .exit)) (now (dots .exit)) (now (rects .exit)) (now (marks .exit))) (now (row .exit)) (queryReply r) ⌝ }
+{
+    let refusal = check(state, nodes, dots, rects, marks);
+    if refusal != 0 {
+        return QueryAnswer::Refused(refusal);
+    }
+    match query_row(state, rect, nodes, dots, rects, row) {
+        Listing::TooMany(many) => QueryAnswer::TooMany(many),
+        Listing::Listed(hits, opened) => QueryAnswer::Listed(hits, opened),
+    }
+}
+
+// The dots that the root's rectangle meets.
+pub fn all(
+    state: State,
+    nodes: &[u32],
+    dots: &[u32],
+    rects: &[i32],
+    marks: &mut [u8],
+    row: &mut [u32],
+) -> QueryAnswer
+    ensures { λ r. ⌜ All (world state (now (nodes .entry)) (now (dots .entry)) (now (rects .entry)) (now (marks .entry))) (now (row .entry)) (world state (now (nodes .exit)) (now (dots .exit)) (now (rects .exit)) (now (marks .exit))) (now (row .exit)) (queryReply r) ⌝ }
+{
+    let refusal = check(state, nodes, dots, rects, marks);
+    if refusal != 0 {
+        return QueryAnswer::Refused(refusal);
+    }
+    let settings = state.settings;
+    match query_row(state, settings.root_rect(), nodes, dots, rects, row) {
+        Listing::TooMany(many) => QueryAnswer::TooMany(many),
+        Listing::Listed(hits, opened) => QueryAnswer::Listed(hits, opened),
+    }
+}

@@ -1,0 +1,87 @@
+-- The chain's walk lists what the query meets. The invariant: what has been listed and what is left make the whole (`Rest`). The count of dots left falls.
+use Prim.Native.Nat.{_<_, _^_}
+use native.Mathlib.Omega.{arith}
+use borrow.Author.Needs.{needs}
+use Rattle.memory.specs.Rows.{HasPlace, HasRect}
+use Rattle.tree_query.specs.Chains.{Rest, rest-start, rest-turn, rest-place, rest-end}
+use Rattle.tree_query.proofs.walk.walk_chain.Statement.{statement}
+use Rattle.tree_query.proofs.walk.walk_chain.Tie as tie
+
+abbrev Inv-loop : tie.InvT-loop
+Inv-loop query dots rects row₀ room head count opened hits₀ place₀ left₀ row hits place left =
+    Rest query dots rects room row₀ hits₀ head count row hits place left × (place < 2 ^ 32)
+
+abbrev μ-loop : tie.MeasureT-loop
+μ-loop query dots rects row₀ room head count opened hits₀ place₀ left₀ row hits place left = left
+
+-- the place that a turn reads is one of the chain's
+place-in : (c : tie.In-loop Inv-loop μ-loop) → HasPlace (c .before .before .before .before .args .dots .now) (c .before .loop .place) × HasRect (c .before .before .before .before .args .rects .now) (c .before .loop .place)
+place-in c =
+    let s = c .before .before .before .before in
+    let a = s .args in
+    let p = s .pre in
+    rest-place (a .query) (a .dots .now) (a .rects .now) (a .room) (a .row .now) (a .found .hits) (a .head) (a .count) (c .before .loop .row) (c .before .loop .hits) (c .before .loop .place) (c .before .loop .left) (c .before .loop .inv .0)
+    (p .chain) (p .stands) (p .long) (p .dotsIn) (c .loop-test .taken)
+
+loop-holds : tie.Need-loop-holds Inv-loop μ-loop
+loop-holds c =
+    let s = c .before .before in
+    let a = s .args in
+    (rest-start (a .query) (a .dots .now) (a .rects .now) (a .room) (a .row .now) (a .found .hits) (a .head) (a .count) (s .pre .counts .hits), search needs)
+
+cast-p : tie.Need-cast-p Inv-loop μ-loop
+cast-p c = omega arith
+
+dot-at-requires : tie.Need-dot-at-requires Inv-loop μ-loop
+dot-at-requires c κs = place-in c
+
+list-dot-requires : tie.Need-list-dot-requires Inv-loop μ-loop
+list-dot-requires c κs =
+    let i = c .before .before .before .loop .inv .0 in
+    (omega (arith, i .same, c .before .before .before .before .before .before .pre .fits), omega (arith, i .bound, c .before .before .loop-test .taken))
+
+next-at-requires : tie.Need-next-at-requires Inv-loop μ-loop
+next-at-requires c κs = place-in (c .before .before .before .before .before) .0
+
+sub-left : tie.Need-sub-left Inv-loop μ-loop
+sub-left c = omega arith
+
+loop-less : tie.Need-loop-less Inv-loop μ-loop
+loop-less c = omega arith
+
+loop-again : tie.Need-loop-again Inv-loop μ-loop
+loop-again c =
+    let l = c .before .before .before .before .before .before .before in
+    let a = l .before .before .before .args in
+    let read = c .before .before .before .before .before .dot-at in
+    let listed = c .before .before .before .list-dot in (
+      rest-turn (a .query) (a .dots .now) (a .rects .now) (a .room) (a .row .now) (a .found .hits) (a .head) (a .count) (l .loop .row) (l .loop .hits) (l .loop .place) (l .loop .left) (l .loop .inv .0)
+          (c .before .before .before .before .before .before .loop-test .taken) (read .result) (read .ensures) _ (listed .result) (c .next-at .result) (listed .ensures .0) (listed .ensures .1) (c .next-at .ensures),
+      search needs,
+    )
+
+same-length : tie.Need-same-length Inv-loop μ-loop
+same-length c = c .before .loop .inv .0 .same
+
+returns : tie.Need-returns Inv-loop μ-loop
+returns c =
+    let s = c .before .before .before .before in
+    let a = s .args in
+    rest-end (a .query) (a .dots .now) (a .rects .now) (a .room) (a .row .now) (a .found) (a .head) (a .count) (c .before .loop .row) (c .before .loop .hits) (c .before .loop .place) (c .before .loop .left) (c .before .loop .inv .0) (omega arith)
+
+pub walk-chain-spec : {M : Type 1} → statement M
+walk-chain-spec =
+    tie.close
+    (tie.spec
+    Inv-loop
+    μ-loop
+    loop-holds
+    cast-p
+    dot-at-requires
+    list-dot-requires
+    next-at-requires
+    sub-left
+    loop-less
+    loop-again
+    same-length
+    returns)

@@ -1,0 +1,111 @@
+-- Leaves of a memory that is a tree: a law for each way through the code.
+--     leaf-settings        the settings of a tree are in range
+--     root-leaves, leaves-met      the walk from the root
+--     leaves-fit   there are few
+--     leaves-many, leaves-listed   refusal 8, and the numbers listed
+use mathlib.Core.Path.{_≡_, refl, ap, sym, _∙_, subst}
+use mathlib.Core.List.{List, [], _∷_}
+use mathlib.Core.Bool.{true}
+use Prim.Native.Nat.{ℕ, _+_, _*_, _/_, _≤_, _<_}
+use native.Mathlib.Omega.{arith}
+use lib.IntN.{ℤ}
+use lib.ListN.{length, replicate}
+use borrow.Author.Tests.{lt-ltb, le-ltb}
+use Rattle.geometry.specs.declared.node_data.NodeData.{NodeData}
+use Rattle.geometry.specs.Settings.{inRange, D}
+use Rattle.geometry.specs.Cells.{rootCell, rootData}
+use Rattle.geometry.specs.Laws.Ranges.{accepted, root-range}
+use Rattle.geometry.specs.Laws.Reach.{deepest-within}
+use Rattle.model.specs.declared.State.{State}
+use Rattle.model.specs.Trees.{Tree, leaf, branch, childNode}
+use Rattle.model.specs.Query.{leavesOf, leafCount}
+use Rattle.model.specs.Shapes.{Shape, root, leaves, leafNumber}
+use Rattle.model.specs.Layout.{world, cleared, Holds}
+use Rattle.model.specs.Memory.{Represents}
+use Rattle.model.specs.Calls.{Reply, tooMany, answered, exit, carriedOut, leavesRule}
+use Rattle.model.specs.Laws.Query.{leaves-length}
+use Rattle.model.specs.Laws.Layout.{holds-settings}
+use Rattle.tree_query.specs.Rows.{keptAll, kept-whole}
+use Rattle.tree_query.specs.Walks.{memoryOf, Stands, nodeTotal}
+use Rattle.tree_query.specs.Shapes.{root-stands, root-counts}
+use Rattle.tree_query.specs.Queries.{tree-settings}
+use Rattle.tree_query.specs.Leaves.{Shaped, LeafStands, LeavesLeft, LeafWalk, LeafWalked}
+use Rattle.tree_query.specs.LeafLaws.{words-total}
+use Rattle.tree_query.specs.Answers.{HasTree, LeavesMet, LeavesListed}
+
+shaped : (nodes dots : List ℕ) (rects : List ℤ) (a : ℕ) (t : Tree) → Represents (memoryOf nodes dots rects) a t → Shaped nodes a t
+shaped nodes dots rects a (leaf chain) r = r .0
+shaped nodes dots rects a (branch g f) r = (r .0, r .1, λ i b. shaped nodes dots rects (childNode g i) (f i) (r .2 i b))
+
+leaf-stands : (nodes dots : List ℕ) (rects : List ℤ) (levels a : ℕ) (t : Tree) → Stands nodes dots rects levels a t → LeafStands nodes levels a t
+leaf-stands nodes dots rects levels a t s = record { shaped = shaped nodes dots rects a t (s .represents); shallow = s .shallow; nodesIn = s .nodesIn; few = s .few }
+
+module _ (s : State) (nodes : List ℕ) where
+  pub leaf-settings : HasTree s nodes → inRange (s .settings) ≡ true
+  leaf-settings h = tree-settings s nodes (h .dots) (h .rects) (h .tree)
+
+  pub root-leaves : (room : ℕ) (row : List ℤ) (n : NodeData) → HasTree s nodes → room ≤ length row → n ≡ rootData (s .settings) → LeafWalk n nodes room row 0 0 (D (s .settings))
+  unfolding rootData
+  root-leaves room row n h fits e =
+      let t = h .tree in
+      let x = t .shape in
+      let within = deepest-within (s .settings) (leaf-settings h) in
+      let depth : n .depth ≡ 0 = ap (λ (m : NodeData). m .depth) e in
+      record {
+        tree = x .tree;
+        stands = leaf-stands nodes (h .dots) (h .rects) (D (s .settings)) 0 (x .tree) (root-stands s nodes (h .dots) (h .rects) (t .marks) x (t .holds));
+        small = omega (arith, root-counts s nodes (h .dots) (h .rects) (t .marks) x (t .holds) .opened);
+        fits = fits;
+        cellFits = rw e (root-range (s .settings) (accepted (s .settings) (leaf-settings h) .root));
+        deep = omega (arith, within, depth);
+      }
+
+  pub leaves-met : (room : ℕ) (row : List ℤ) (n : NodeData) (row′ : List ℤ) (r : ℕ) → n ≡ rootData (s .settings) → LeafWalked n nodes room row 0 0 (D (s .settings)) row′ r
+      → LeavesMet s nodes room row row′ r
+  unfolding LeafWalked LeavesMet leaves
+  leaves-met room row n row′ r e w = λ dots rects marks x h.
+      let same : n ≡ root x = e ∙ ap rootData (holds-settings (world s nodes dots rects marks) x h) in
+      let l = w (x .tree) (leaf-stands nodes dots rects (D (s .settings)) 0 (x .tree) (root-stands s nodes dots rects marks x h)) in
+      let words = ap (λ (m : NodeData). leavesOf m (x .tree)) same in
+      let many : 0 + length (leavesOf n (x .tree)) ≡ length (leavesOf (root x) (x .tree)) = omega (arith, ap length words) in
+      (l .position ∙ many, l .written ∙ ap (keptAll room row 0) words)
+
+  -- ---- how many there are
+
+  six : (x : Shape) → length (leaves x) ≡ 6 * leafNumber x
+  unfolding leaves leafNumber
+  six x = leaves-length (root x) (x .tree)
+
+  pub leaves-fit : (room : ℕ) (row row′ : List ℤ) (r : ℕ) → HasTree s nodes → LeavesMet s nodes room row row′ r → r ≤ 1000000
+  unfolding LeavesMet leaves
+  leaves-fit room row row′ r h m =
+      let t = h .tree in
+      let x = t .shape in
+      omega (
+        arith,
+        m (h .dots) (h .rects) (t .marks) x (t .holds) .0,
+        words-total (root x) (x .tree),
+        root-counts s nodes (h .dots) (h .rects) (t .marks) x (t .holds) .opened,
+      )
+
+  -- ---- the answer
+
+  module _ (room : ℕ) (other other′ : List ℤ) (r : ℕ) (count : LeavesMet s nodes room other other′ r) where
+    pub leaves-many : (row : List ℤ) → length row < r → LeavesListed s nodes row row (tooMany (r / 6))
+    unfolding LeavesMet LeavesListed leavesRule cleared
+    leaves-many row short = λ dots rects marks x h.
+        let many : r ≡ 6 * leafNumber x = count dots rects marks x h .0 ∙ six x in
+        let number : r / 6 ≡ leafNumber x = omega (arith, many) in
+        rw (lt-ltb (length row) (6 * leafNumber x) (omega (arith, many)))
+        (ap (λ (n : ℕ). exit (world s nodes dots rects (replicate (length marks) 0)) row (tooMany n)) number)
+
+    pub leaves-listed : (row row′ : List ℤ) (k : ℕ) → r ≤ length row → LeavesMet s nodes (length row) row row′ k → LeavesListed s nodes row row′ (answered (r / 6))
+    unfolding LeavesMet LeavesListed leavesRule cleared
+    leaves-listed row row′ k fits m = λ dots rects marks x h.
+        let many : r ≡ 6 * leafNumber x = count dots rects marks x h .0 ∙ six x in
+        let number : r / 6 ≡ leafNumber x = omega (arith, many) in
+        let long : length (leaves x) ≤ length row = omega (arith, six x, many) in
+        let written = m dots rects marks x h .1 ∙ kept-whole (length row) row (leaves x) long long in
+        let words = h .words in
+        rw (le-ltb (length row) (6 * leafNumber x) (omega (arith, many)))
+        (λ i. exit (words i) (written i) (answered (number i)))

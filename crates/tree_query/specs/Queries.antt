@@ -1,0 +1,119 @@
+-- Queries on a memory that is a tree: a law for each way through the code.
+--     tree-settings        the settings of a tree are in range
+--     root-walk, root-met  the walk from the root
+--     met-counted          a walk with no room counts
+--     listed-few, counted-hits, counts-fit, met-fit        how many there are, at most
+--     queried-many, queried-listed         refusal 8, and the ids listed
+use mathlib.Core.Path.{_≡_, refl, ap, sym, _∙_, subst}
+use mathlib.Core.List.{List, [], _∷_, _++_, map}
+use mathlib.Core.Bool.{true, false}
+use Prim.Native.Nat.{ℕ, _+_, _≤_, _<_}
+use native.Mathlib.Omega.{arith}
+use lib.IntN.{ℤ}
+use lib.Dec.{ltb}
+use lib.ListN.{length, drop, replicate}
+use borrow.Author.Tests.{lt-ltb, le-ltb}
+use Rattle.geometry.specs.declared.aabb.AABB.{AABB}
+use Rattle.geometry.specs.declared.centered_aabb.CenteredAABB.{CenteredAABB}
+use Rattle.geometry.specs.Settings.{rootFits, inRange, D}
+use Rattle.geometry.specs.Cells.{rootCell, rootData}
+use Rattle.geometry.specs.Laws.Ranges.{accepted, root-range}
+use Rattle.model.specs.declared.State.{State}
+use Rattle.model.specs.Query.{hits, opened}
+use Rattle.model.specs.Trees.{Placed, size}
+use Rattle.model.specs.Shapes.{Shape, Valid, root, listed, opensFor}
+use Rattle.model.specs.Layout.{World, world, cleared, layout, Holds}
+use Rattle.model.specs.Calls.{Reply, tooMany, answered, Listed, Verdict, overflow, accept, exit, carriedOut, queryRule}
+use Rattle.model.specs.Laws.Shapes.{live-and-free}
+use Rattle.model.specs.Laws.Layout.{holds-settings}
+use Rattle.model.specs.Laws.Memory.{holds-represented}
+use Rattle.model.specs.Laws.Listing.{listed-le}
+use Rattle.tree.specs.Operations.{IsTree}
+use Rattle.tree_query.specs.declared.walk.Found.{Found}
+use Rattle.tree_query.specs.Rows.{keptAll, kept-whole}
+use Rattle.tree_query.specs.Walks.{after, rowAfter, NodeWalk, NodeWalked}
+use Rattle.tree_query.specs.Groups.{length-map}
+use Rattle.tree_query.specs.Shapes.{root-stands, root-counts}
+use Rattle.tree_query.specs.Answers.{foundIn, Met, Counted, Queried}
+
+module _ (s : State) (nodes dots : List ℕ) (rects : List ℤ) where
+  pub tree-settings : IsTree s nodes dots rects → inRange (s .settings) ≡ true
+  tree-settings t = ap inRange (holds-settings (world s nodes dots rects (t .marks)) (t .shape) (t .holds)) ∙ t .holds .valid .settingsFit
+
+  pub tree-root : IsTree s nodes dots rects → rootFits (s .settings) ≡ true
+  tree-root t = accepted (s .settings) (tree-settings t) .root
+
+  -- ---- the walk
+
+  pub root-walk : (room : ℕ) (row : List ℕ) (cell : CenteredAABB) → IsTree s nodes dots rects → room ≤ length row → cell ≡ rootCell (s .settings)
+      → NodeWalk cell nodes dots rects room row (record { hits = 0; opened = 0 }) 0 (D (s .settings))
+  root-walk room row cell t fits e =
+      record {
+        tree = t .shape .tree;
+        stands = root-stands s nodes dots rects (t .marks) (t .shape) (t .holds);
+        counts = root-counts s nodes dots rects (t .marks) (t .shape) (t .holds);
+        fits = fits;
+        cellFits = rw e (root-range (s .settings) (tree-root t));
+      }
+
+  pub root-met : (q : AABB) (room : ℕ) (row : List ℕ) (cell : CenteredAABB) (row′ : List ℕ) (r : Found) → cell ≡ rootCell (s .settings)
+      → NodeWalked q cell nodes dots rects room row (record { hits = 0; opened = 0 }) 0 (D (s .settings)) row′ r → Met s q nodes dots rects room row row′ r
+  unfolding NodeWalked Met after rowAfter listed opensFor rootData
+  root-met q room row cell row′ r e walked = λ marks x h.
+      let n = root x in
+      let same = holds-settings (world s nodes dots rects marks) x h in
+      let l = walked (x .tree) n (root-stands s nodes dots rects marks x h) (ap rootCell (sym same) ∙ sym e) in
+      let found = hits q n (x .tree) in
+      let many : 0 + length found ≡ length (map (λ d. d .dot .id) found) = omega (arith, length-map found) in
+      let nodes-opened : 0 + opened q n (x .tree) ≡ opened q n (x .tree) = omega arith in
+      (l .answer ∙ (λ i. record { hits = many i; opened = nodes-opened i }), l .written)
+
+  pub met-counted : (q : AABB) (row row′ : List ℕ) (r : Found) → Met s q nodes dots rects 0 row row′ r → Counted s q nodes dots rects r
+  unfolding Met Counted
+  met-counted q row row′ r m = λ marks x h. m marks x h .0
+
+  -- ---- how many there are
+
+  pub listed-few : (q : AABB) (marks : List ℕ) (x : Shape) → Holds (world s nodes dots rects marks) x → (length (listed q x) ≤ s .live) × (s .live ≤ 65536)
+  listed-few q marks x h =
+      let live = holds-represented (world s nodes dots rects marks) x h .live in
+      (omega (arith, listed-le q x (h .valid), live), omega (arith, live-and-free x (h .valid), h .valid .placesFit, live))
+
+  pub counted-hits : (q : AABB) (r : Found) → Counted s q nodes dots rects r → (marks : List ℕ) (x : Shape) → Holds (world s nodes dots rects marks) x → r .hits ≡ length (listed q x)
+  unfolding Counted
+  counted-hits q r c marks x h = ap (λ (f : Found). f .hits) (c marks x h)
+
+  pub counts-fit : (q : AABB) (r : Found) → IsTree s nodes dots rects → Counted s q nodes dots rects r → r .hits ≤ 65536
+  counts-fit q r t c =
+      let f = listed-few q (t .marks) (t .shape) (t .holds) in
+      omega (arith, f .0, f .1, counted-hits q r c (t .marks) (t .shape) (t .holds))
+
+  pub met-fit : (q : AABB) (room : ℕ) (row row′ : List ℕ) (r : Found) → IsTree s nodes dots rects → Met s q nodes dots rects room row row′ r → r .hits ≤ 65536
+  unfolding Met
+  met-fit q room row row′ r t m =
+      let f = listed-few q (t .marks) (t .shape) (t .holds) in
+      omega (arith, f .0, f .1, ap (λ (x : Found). x .hits) (m (t .marks) (t .shape) (t .holds) .0))
+
+  -- ---- the answer
+
+  -- 8: the ids outnumber the row, and nothing is changed
+  pub queried-many : (q : AABB) (row : List ℕ) (r : Found) → Counted s q nodes dots rects r → length row < r .hits → Queried s q nodes dots rects row row (tooMany (r .hits))
+  unfolding Queried queryRule cleared
+  queried-many q row r c short = λ marks x h.
+      let many = counted-hits q r c marks x h in
+      rw (lt-ltb (length row) (length (listed q x)) (omega (arith, many)))
+      (ap (λ (n : ℕ). exit (world s nodes dots rects (replicate (length marks) 0)) row (tooMany n)) many)
+
+  -- the row begins with the ids and keeps its tail
+  pub queried-listed : (q : AABB) (row row′ : List ℕ) (r : Found) → Met s q nodes dots rects (length row) row row′ r
+      → ((marks : List ℕ) (x : Shape) → Holds (world s nodes dots rects marks) x → length (listed q x) ≤ length row)
+      → Queried s q nodes dots rects row row′ (answered (record { hits = r .hits; opened = r .opened }))
+  unfolding Met Queried queryRule cleared
+  queried-listed q row row′ r m fits = λ marks x h.
+      let found = m marks x h in
+      let many = ap (λ (f : Found). f .hits) (found .0) in
+      let nodes-opened = ap (λ (f : Found). f .opened) (found .0) in
+      let written = found .1 ∙ kept-whole (length row) row (listed q x) (fits marks x h) (fits marks x h) in
+      let words = h .words in
+      rw (le-ltb (length row) (length (listed q x)) (fits marks x h))
+      (λ i. exit (words i) (written i) (answered (record { hits = many i; opened = nodes-opened i })))

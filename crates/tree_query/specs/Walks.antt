@@ -1,0 +1,134 @@
+-- What the query's walk asks of the words, and what it leaves.
+--     memoryOf     the lent rows as functions
+--     Stands       a tree stands at a node, in rows that have its nodes and places
+--     after, rowAfter      what a walk has met, and the row, once some dots are listed and some nodes opened
+use mathlib.Core.Path.{_≡_, refl, ap, sym, _∙_}
+use mathlib.Core.List.{List, [], _∷_, _++_, map}
+use mathlib.Core.Bool.{Bool, true, false, cond}
+use Prim.Native.Nat.{ℕ, zero, suc, _+_, _*_, _-_, _≤_, _<_}
+use lib.IntN.{ℤ}
+use lib.ListN.{length}
+use Rattle.geometry.specs.declared.aabb.AABB.{AABB}
+use Rattle.geometry.specs.declared.centered_aabb.CenteredAABB.{CenteredAABB}
+use Rattle.geometry.specs.declared.node_data.NodeData.{NodeData}
+use Rattle.geometry.specs.declared.quadrants.Quadrants.{Quadrants}
+use Rattle.geometry.specs.Cells.{routeCell, mayDivide, childData, opens, InRange, cellCode}
+use Rattle.model.specs.declared.Dot.{Dot}
+use Rattle.model.specs.Sums.{sumBelow}
+use Rattle.model.specs.Lists.{All, filter}
+use Rattle.model.specs.Dots.{isHit}
+use Rattle.model.specs.Trees.{Placed, Tree, leaf, branch, childNode, AllDots, Shallow, size}
+use Rattle.model.specs.Query.{hits, opened}
+use Rattle.model.specs.Layout.{none}
+use Rattle.model.specs.Memory.{Mem, firstAt, countAt, nextAt, dotAt, Chained, Represents}
+use Rattle.memory.specs.Rows.{HasNode, HasPlace, HasRect}
+use Rattle.tree_query.specs.declared.walk.Found.{Found}
+use Rattle.tree_query.specs.Rows.{kept, keptAll}
+
+abbrev pub memoryOf : List ℕ → List ℕ → List ℤ → Mem
+memoryOf nodes dots rects = record { first = firstAt nodes; count = countAt nodes; dot = dotAt dots rects; next = nextAt dots }
+
+-- ---- what the words must hold
+
+abbrev pub InRows : List ℕ → List ℤ → Placed → Type 0
+InRows dots rects d = HasPlace dots (d .place) × HasRect rects (d .place)
+
+-- the rows have each node of the tree, and how many nodes it has
+abbrev pub NodesIn : List ℕ → ℕ → Tree → Type 0
+NodesIn nodes a (leaf chain) = HasNode nodes a
+NodesIn nodes a (branch g f) = HasNode nodes a × ((i : ℕ) → i < 5 → NodesIn nodes (childNode g i) (f i))
+
+abbrev pub nodeTotal : Tree → ℕ
+nodeTotal (leaf chain) = 1
+nodeTotal (branch g f) = 1 + sumBelow 5 (λ i. nodeTotal (f i))
+
+pub record Stands (nodes dots : List ℕ) (rects : List ℤ) (levels a : ℕ) (t : Tree) : Type 0 where
+  pub represents : Represents (memoryOf nodes dots rects) a t
+  pub shallow : Shallow levels t
+  pub nodesIn : NodesIn nodes a t
+  pub dotsIn : AllDots (InRows dots rects) t
+  pub few : size t ≤ 65536
+
+-- the children from 5 - left on, in order
+abbrev pub joinLast {ℓ} : {A : Type ℓ} → ℕ → (ℕ → List A) → List A
+joinLast zero f = []
+joinLast (suc left) f = f (5 - suc left) ++ joinLast left f
+
+abbrev pub sumLast : ℕ → (ℕ → ℕ) → ℕ
+sumLast zero f = 0
+sumLast (suc left) f = f (5 - suc left) + sumLast left f
+
+-- ---- what a walk meets
+
+abbrev pub chainHits : AABB → List Placed → List Placed
+chainHits q chain = filter (λ d. isHit q (d .dot)) chain
+
+abbrev pub groupHits : AABB → NodeData → (ℕ → Tree) → ℕ → List Placed
+groupHits q n f left = joinLast left (λ i. cond (opens q n i) (hits q (childData n i) (f i)) [])
+
+abbrev pub groupOpened : AABB → NodeData → (ℕ → Tree) → ℕ → ℕ
+groupOpened q n f left = sumLast left (λ i. cond (opens q n i) (opened q (childData n i) (f i)) 0)
+
+-- one dot
+unfoldable pub hitsAfter : AABB → Dot → ℕ → ℕ
+hitsAfter q d at = cond (isHit q d) (at + 1) at
+
+unfoldable pub rowWith : AABB → Dot → ℕ → List ℕ → ℕ → List ℕ
+rowWith q d room row at = cond (isHit q d) (kept room row at (d .id)) row
+
+-- the dots ds are listed and k nodes opened
+unfoldable pub after : Found → List Placed → ℕ → Found
+after found ds k = record { hits = found .hits + length ds; opened = found .opened + k }
+
+unfoldable pub rowAfter : ℕ → List ℕ → Found → List Placed → List ℕ
+rowAfter room row found ds = keptAll room row (found .hits) (map (λ d. d .dot .id) ds)
+
+pub record Left (room : ℕ) (row : List ℕ) (found : Found) (ds : List Placed) (k : ℕ) (row′ : List ℕ) (r : Found) : Type 0 where
+  pub answer : r ≡ after found ds k
+  pub written : row′ ≡ rowAfter room row found ds
+
+-- ---- the contracts
+
+-- `found` may still grow by the dots and nodes of what is walked
+pub record Counts (found : Found) (dots nodes : ℕ) : Type 0 where
+  pub hits : found .hits + dots ≤ 65536
+  pub opened : found .opened + nodes ≤ 81921
+
+pub record ChainWalk (dots : List ℕ) (rects : List ℤ) (room : ℕ) (row : List ℕ) (found : Found) (head count : ℕ) : Type 0 where
+  pub chain : List Placed
+  pub stands : Chained (memoryOf [] dots rects) head chain none
+  pub long : length chain ≡ count
+  pub dotsIn : All (InRows dots rects) chain
+  pub fits : room ≤ length row
+  pub counts : Counts found count 0
+
+unfoldable pub ChainWalked : AABB → List ℕ → List ℤ → ℕ → List ℕ → Found → ℕ → ℕ → List ℕ → Found → Type 0
+ChainWalked q dots rects room row found head count row′ r =
+    (chain : List Placed) → Chained (memoryOf [] dots rects) head chain none → length chain ≡ count → Left room row found (chainHits q chain) 0 row′ r
+
+pub record NodeWalk (cell : CenteredAABB) (nodes dots : List ℕ) (rects : List ℤ) (room : ℕ) (row : List ℕ) (found : Found) (a levels : ℕ) : Type 0 where
+  pub tree : Tree
+  pub stands : Stands nodes dots rects levels a tree
+  pub counts : Counts found (size tree) (nodeTotal tree)
+  pub fits : room ≤ length row
+  pub cellFits : InRange cell
+
+unfoldable pub NodeWalked : AABB → CenteredAABB → List ℕ → List ℕ → List ℤ → ℕ → List ℕ → Found → ℕ → ℕ → List ℕ → Found → Type 0
+NodeWalked q cell nodes dots rects room row found a levels row′ r =
+    (t : Tree) (n : NodeData) → Stands nodes dots rects levels a t → n .cell ≡ cell → Left room row found (hits q n t) (opened q n t) row′ r
+
+pub record GroupWalk (q : AABB) (cell : CenteredAABB) (quadrants : Quadrants) (nodes dots : List ℕ) (rects : List ℤ) (room : ℕ) (row : List ℕ) (found : Found) (first levels left : ℕ) : Type 0 where
+  pub group : ℕ
+  pub children : ℕ → Tree
+  pub head : first ≡ childNode group 0
+  pub small : left ≤ 5
+  pub stands : (i : ℕ) → 5 ≤ i + left → i < 5 → Stands nodes dots rects levels (childNode group i) (children i)
+  pub counts : Counts found (sumLast left (λ i. size (children i))) (sumLast left (λ i. nodeTotal (children i)))
+  pub fits : room ≤ length row
+  pub cellFits : InRange cell
+  pub code : quadrants .code ≡ cellCode cell q
+
+unfoldable pub GroupWalked : AABB → CenteredAABB → List ℕ → List ℕ → List ℤ → ℕ → List ℕ → Found → ℕ → ℕ → ℕ → List ℕ → Found → Type 0
+GroupWalked q cell nodes dots rects room row found first levels left row′ r =
+    (g : ℕ) (f : ℕ → Tree) (n : NodeData) → first ≡ childNode g 0 → ((i : ℕ) → 5 ≤ i + left → i < 5 → Stands nodes dots rects levels (childNode g i) (f i)) → n .cell ≡ cell
+    → Left room row found (groupHits q n f left) (groupOpened q n f left) row′ r

@@ -1,0 +1,188 @@
+// The walk of a query: it counts the dots that intersect, lists them as far as there is room, and counts the nodes opened.
+ghost use mathlib.Core.Path.{_≡_};
+ghost use Prim.Native.Nat.{_≤_, _<_};
+ghost use lib.ListN.{length};
+ghost use Rattle.tree_query.specs.Rows.{kept};
+ghost use Rattle.tree_query.specs.Walks.{hitsAfter, rowWith, ChainWalk, NodeWalk, GroupWalk, ChainWalked, NodeWalked, GroupWalked};
+use geometry::aabb::AABB;
+use geometry::centered_aabb::CenteredAABB;
+use geometry::quadrants::Quadrants;
+use memory::words::dot_at;
+use memory::words::next_at;
+use memory::words::node_at;
+use model::Dot;
+
+// What a walk has met: the dots that intersect, and the nodes opened.
+pub struct Found {
+    pub hits: usize,
+    pub opened: u32,
+}
+
+// Writes an id at a position of the row, where there is room.
+fn keep(row: &mut [u32], room: usize, at: usize, id: u32)
+    requires { ⌜ room ≤ length (now row) ⌝ }
+    ensures { λ _. ⌜ now (row .exit) ≡ kept room (now (row .entry)) at id ⌝ }
+{
+    if at < room {
+        row[at] = id;
+    }
+}
+
+// Lists a dot where the query meets it; how many are then listed.
+fn list_dot(query: AABB, dot: Dot, row: &mut [u32], room: usize, hits: usize) -> usize
+    requires { ⌜ (room ≤ length (now row)) × (hits < 65536) ⌝ }
+    ensures { λ r. ⌜ (r ≡ hitsAfter query dot hits) × (now (row .exit) ≡ rowWith query dot room (now (row .entry)) hits) ⌝ }
+{
+    let rect = dot.rect;
+    if !query.intersects_with(rect) {
+        return hits;
+    }
+    keep(row, room, hits, dot.id);
+    hits + 1
+}
+
+// Lists the dots of a chain that the query meets.
+fn walk_chain(
+    query: AABB,
+    dots: &[u32],
+    rects: &[i32],
+    row: &mut [u32],
+    room: usize,
+    found: Found,
+    head: u32,
+    count: u32,
+) -> Found
+    requires { ⌜ ChainWalk (now dots) (now rects) room (now row) found head count ⌝ }
+    ensures { λ r. ⌜ ChainWalked query (now (dots .entry)) (now (rects .entry)) room (now (row .entry)) found head count (now (row .exit)) r ⌝ }
+{
+    let opened = found.opened;
+    let mut hits = found.hits;
+    let mut place = head;
+    let mut left = count;
+    while left > 0 {
+        let p = place as usize;
+        hits = list_dot(query, dot_at(dots, rects, p), row, room, hits);
+        place = next_at(dots, p);
+        left -= 1;
+    }
+    Found { hits, opened }
+}
+
+// Opens a node: lists its chain, or hands its group on.
+pub fn walk_node(
+    query: AABB,
+    cell: CenteredAABB,
+    nodes: &[u32],
+    dots: &[u32],
+    rects: &[i32],
+    row: &mut [u32],
+    room: usize,
+    found: Found,
+    node: usize,
+    levels: u32,
+) -> Found
+    requires { ⌜ NodeWalk cell (now nodes) (now dots) (now rects) room (now row) found node levels ⌝ }
+    ensures { λ r. ⌜ NodeWalked query cell (now (nodes .entry)) (now (dots .entry)) (now (rects .entry)) room (now (row .entry)) found node levels (now (row .exit)) r ⌝ }
+{
+    let words = node_at(nodes, node);
+    let opened = Found {
+        hits: found.hits,
+        opened: found.opened + 1,
+    };
+    if !words.is_branch() {
+        return walk_chain(
+            query,
+            dots,
+            rects,
+            row,
+            room,
+            opened,
+            words.first,
+            words.count,
+        );
+    }
+    let quadrants = cell.explore_quadrants(query);
+    let first = words.first as usize;
+    walk_group(
+        query,
+        cell,
+        quadrants,
+        nodes,
+        dots,
+        rects,
+        row,
+        room,
+        opened,
+        first,
+        levels - 1,
+        5,
+    )
+}
+
+// Hands back the last `left` children of a group, those that the query opens.
+fn walk_group(
+    query: AABB,
+    cell: CenteredAABB,
+    quadrants: Quadrants,
+    nodes: &[u32],
+    dots: &[u32],
+    rects: &[i32],
+    row: &mut [u32],
+    room: usize,
+    found: Found,
+    first: usize,
+    levels: u32,
+    left: u32,
+) -> Found
+    requires { ⌜ GroupWalk query cell quadrants (now nodes) (now dots) (now rects) room (now row) found first levels left ⌝ }
+    ensures { λ r. ⌜ GroupWalked query cell (now (nodes .entry)) (now (dots .entry)) (now (rects .entry)) room (now (row .entry)) found first levels left (now (row .exit)) r ⌝ }
+{
+    if left == 0 {
+        return found;
+    }
+    let child = 5 - left;
+    if !((child == 0) | quadrants.at(child)) {
+        return walk_group(
+            query,
+            cell,
+            quadrants,
+            nodes,
+            dots,
+            rects,
+            row,
+            room,
+            found,
+            first,
+            levels,
+            left - 1,
+        );
+    }
+    let below = cell.split(child);
+    let node = first + child as usize;
+    let next = walk_node(
+        query,
+        below,
+        nodes,
+        dots,
+        rects,
+        row,
+        room,
+        found,
+        node,
+        levels,
+    );
+    walk_group(
+        query,
+        cell,
+        quadrants,
+        nodes,
+        dots,
+        rects,
+        row,
+        room,
+        next,
+        first,
+        levels,
+        left - 1,
+    )
+}
