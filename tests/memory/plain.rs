@@ -148,12 +148,47 @@ impl Memory {
         self.set(a, p, count);
     }
 
+    // The free groups that the list has.
+    pub fn free_groups(&self) -> usize {
+        let (mut link, mut n) = (self.free_group, 0);
+        while link != NONE {
+            link = self.first(link as usize);
+            n += 1;
+        }
+        n
+    }
+
+    // The splits that an insert of r makes with groups enough.
+    fn splits_needed(&self, r: Rect) -> usize {
+        let (mut a, mut cell, mut splits) = (0usize, self.settings.root(), 0);
+        while self.count(a) == BRANCH {
+            let i = cell.route(r);
+            a = self.first(a) as usize + i as usize;
+            cell = cell.child(i);
+        }
+        let (mut chain, mut link) = (vec![], self.first(a));
+        while link != NONE {
+            chain.push(self.rect(link as usize));
+            link = self.dots[2 * link as usize + 1];
+        }
+        while chain.len() >= self.settings.leaf_limit as usize && self.settings.may_split(&cell) {
+            splits += 1;
+            let i = cell.route(r);
+            chain.retain(|&d| cell.route(d) == i);
+            cell = cell.child(i);
+        }
+        splits
+    }
+
     // An insert, if it is accepted.
     pub fn insert(&mut self, id: u32, r: Rect) -> bool {
         if !self.settings.accepts(r) || self.free_place == NONE {
             return false;
         }
-        let before = self.clone();
+        let needed = self.splits_needed(r);
+        if needed > 0 && needed > self.free_groups() {
+            return false;
+        }
         let p = self.free_place;
         self.free_place = self.dots[2 * p as usize + 1];
         self.dots[2 * p as usize] = id;
@@ -170,10 +205,6 @@ impl Memory {
             if self.count(a) < self.settings.leaf_limit || !self.settings.may_split(&cell) {
                 self.push(a, p);
                 return true;
-            }
-            if self.free_group == NONE {
-                *self = before;
-                return false;
             }
             let g = self.free_group;
             self.free_group = self.first(g as usize);

@@ -3,7 +3,7 @@
 ghost use mathlib.Core.Path.{_≡_};
 ghost use Prim.Native.Nat.{_<_};
 ghost use lib.ListN.{length, getD};
-ghost use Rattle.calls_export.specs.Rows.{signed, settingsIn, stateIn, ExportedCheck};
+ghost use Rattle.calls_export.specs.Rows.{signed, settingsIn, stateIn, ExportedCheck, ExportedReferences, ExportedMake};
 use calls::references::Counted;
 use calls::references::references;
 use geometry::settings::Settings;
@@ -63,7 +63,9 @@ pub extern "C" fn calls_make(
     dots: &mut [u32],
     rects: &mut [i32],
     marks: &mut [u8],
-) -> u64 {
+) -> u64
+    ensures { λ r. ⌜ ExportedMake (now (state .entry)) (now (nodes .entry)) (now (dots .entry)) (now (rects .entry)) (now (marks .entry)) (now (state .exit)) (now (nodes .exit)) (now (dots .exit)) (now (rects .exit)) (now (marks .exit)) r ⌝ }
+{
     if state.len() != 10 {
         return 1;
     }
@@ -106,7 +108,9 @@ pub extern "C" fn calls_references(
     rects: &[i32],
     marks: &mut [u8],
     answer: &mut [u32],
-) -> u64 {
+) -> u64
+    ensures { λ r. ⌜ ExportedReferences (now (state .entry)) (now (nodes .entry)) (now (dots .entry)) (now (rects .entry)) (now (marks .entry)) (now (answer .entry)) (now (marks .exit)) (now (answer .exit)) r ⌝ }
+{
     if state.len() != 10 {
         return 1;
     }

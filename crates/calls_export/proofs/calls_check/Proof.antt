@@ -1,11 +1,12 @@
 -- The two ways: a row of another length, or the check.
-use Rattle.calls_export.specs.Laws.{other-length, check-row}
+use Rattle.calls_export.specs.Laws.{check-other, check-row}
 use borrow.Author.Needs.{needs}
+use Rattle.calls_export.specs.Laws.{check-row}
 use Rattle.calls_export.proofs.calls_check.Statement.{statement}
 use Rattle.calls_export.proofs.calls_check.Tie as tie
 
 returns : tie.Need-returns
-returns c = other-length _ _ _ _ _ (c .if1 .taken)
+returns c = check-other _ _ _ _ _ (c .if1 .taken)
 
 state-in-requires : tie.Need-state-in-requires
 state-in-requires c κs = search needs

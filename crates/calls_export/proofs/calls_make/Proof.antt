@@ -1,12 +1,16 @@
--- A row of ten words has the three that are written.
+-- The three ways: a row of another length, a refusal, a state whose last three words are written.
+use mathlib.Core.Path.{sym, ap}
 use native.Mathlib.Omega.{arith}
 use lib.ListN.{length-set}
+use Rattle.memory.specs.declared.make.Making.{Making}
+use Rattle.calls_export.specs.Rows.{makeResult, makeRow}
+use Rattle.calls_export.specs.Laws.{make-other, make-row}
 use borrow.Author.Needs.{needs}
 use Rattle.calls_export.proofs.calls_make.Statement.{statement}
 use Rattle.calls_export.proofs.calls_make.Tie as tie
 
 returns : tie.Need-returns
-returns c = search needs
+returns c = make-other _ _ _ _ _ (c .if1 .taken)
 
 settings-in-requires : tie.Need-settings-in-requires
 settings-in-requires c κs = search needs
@@ -50,7 +54,15 @@ same-length-5 : tie.Need-same-length-5
 same-length-5 c = search needs
 
 returns-2 : tie.Need-returns-2
-returns-2 c = search needs
+returns-2 c =
+    let c1 = c .before in
+    let c10 = c1 .before .before .before .before .before .before .before .before .before in
+    let c15 = c10 .before .before .before .before .before in
+    let c17 = c15 .before .before in
+    let c22 = c17 .before .before .before .before .before in
+    let is = c1 .refusal .given .1 in
+    let row = c22 .args .state .now in
+    make-row row _ _ _ _ _ _ _ _ _ _ _ (c10 .make .result) (c17 .if1 .left) (c15 .settings-in .ensures) (c10 .make .ensures) (sym (ap makeResult is)) (sym (ap (λ (m : Making). makeRow m row) is))
 
 same-length-6 : tie.Need-same-length-6
 same-length-6 c = search needs
@@ -68,7 +80,15 @@ same-length-10 : tie.Need-same-length-10
 same-length-10 c = search needs
 
 returns-3 : tie.Need-returns-3
-returns-3 c = search needs
+returns-3 c =
+    let c1 = c .before in
+    let c10 = c1 .before .before .before .before .before .before .before .before .before in
+    let c15 = c10 .before .before .before .before .before in
+    let c17 = c15 .before .before in
+    let c22 = c17 .before .before .before .before .before in
+    let is = c1 .made .given .1 in
+    let row = c22 .args .state .now in
+    make-row row _ _ _ _ _ _ _ _ _ _ _ (c10 .make .result) (c17 .if1 .left) (c15 .settings-in .ensures) (c10 .make .ensures) (sym (ap makeResult is)) (sym (ap (λ (m : Making). makeRow m row) is))
 
 pub calls-make-spec : {M : Type 1} → statement M
 calls-make-spec =
