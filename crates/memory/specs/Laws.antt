@@ -1,4 +1,5 @@
--- What is read after a store: one number's word is changed, every other is kept.
+-- Laws of the lent rows. Lengths: what refusal 1's test says; Fresh: that make's words are the fresh tree's.
+-- Here: what is read after a store: one number's word is changed, every other is kept.
 --     changed-by   a function that differs at one number
 --     first-set, count-set, next-set, id-set, rect-set     the word that is stored
 --     next-id, id-next     the word beside it
@@ -17,6 +18,8 @@ use Rattle.model.specs.Sums.{changed, changed-same, changed-other, byDec}
 use Rattle.model.specs.Memory.{firstAt, countAt, idAt, nextAt, rectAt}
 use Rattle.memory.specs.declared.node.Node.{Node}
 use Rattle.memory.specs.Rows.{HasNode, HasPlace, HasRect, setNodeAt, setNextAt, setIdAt, setRectAt}
+pub mod Lengths
+pub mod Fresh
 
 pub changed-by : {A : Type 0} (f g : ℕ → A) (a : ℕ) (v : A) → g a ≡ v → ((k : ℕ) → k ≢ a → g k ≡ f k) → g ≡ changed f a v
 changed-by f g a v same other =

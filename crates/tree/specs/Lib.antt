@@ -21,3 +21,6 @@ pub mod Routes
 pub mod Chains
 pub mod Answers
 pub mod Removes
+pub mod Dealing
+pub mod Splitting
+pub mod Growing

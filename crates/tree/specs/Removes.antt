@@ -3,11 +3,11 @@
 --     Found, found-split, hit-absent       where a dot with the id stands in its chain, or that there is none
 --     Takeable, takeable   what the stores ask
 --     removed-holds        the stores leave the removed shape
-use mathlib.Core.Path.{_≡_, refl, ap, sym, _∙_, subst, fun-ext}
+use mathlib.Core.Path.{_≡_, refl, ap, sym, _∙_, subst}
 use mathlib.Core.List.{List, [], _∷_, _++_}
 use mathlib.Core.Bool.{true, false}
 use Prim.Native.Nat.{ℕ, _+_, _-_, _≤_, _<_}
-use native.Mathlib.Decide.{decLt, ℕ-discrete}
+use native.Mathlib.Decide.{decLt}
 use native.Mathlib.Omega.{arith}
 use lib.IntN.{ℤ}
 use lib.ListN.{length, replicate, length-replicate, length-append}
@@ -20,7 +20,7 @@ use Rattle.geometry.specs.declared.node_data.NodeData.{NodeData}
 use Rattle.geometry.specs.Cells.{rootData, childData, route}
 use Rattle.geometry.specs.Laws.Geometry.{route-child}
 use Rattle.model.specs.declared.State.{State}
-use Rattle.model.specs.Sums.{changed, changed-same, changed-other, indicator-same, sumOver, sumOver-append, sumOver-one, byDec}
+use Rattle.model.specs.Sums.{changed, indicator-same, sumOver, sumOver-append, sumOver-one, byDec}
 use Rattle.model.specs.Dots.{matches, zeroDot}
 use Rattle.model.specs.Trees.{Placed, Tree, leaf, branch, childNode, sumDots, atPlace, placeCount, size}
 use Rattle.model.specs.Remove.{firstHas, firstOut, firstPlace, removeAt, removePlace}
@@ -45,7 +45,7 @@ use Rattle.tree.specs.Stores.{setCount, setNext, Stored}
 use Rattle.tree.specs.Removals.{freeWords, popWords, pop-holds, dropWords, drop-holds}
 use Rattle.tree.specs.Inserts.{reach-children}
 use Rattle.tree.specs.Joins.{holds-stored, stored-holds}
-use Rattle.tree.specs.Readings.{read, setNode, node-stored, next-stored, dot-stored}
+use Rattle.tree.specs.Readings.{changed-id, read, setNode, node-stored, next-stored, dot-stored}
 use Rattle.tree.specs.Routes.{leafFor, chainFor, pathTo, path-reach, path-sub, path-node, says-path, place-path, remove-path, Guided, holds-guided, LeadsTo}
 use Rattle.tree.specs.Chains.{hitIn, Linked, Searchable, unlinkedNode, unlinkedDots}
 
@@ -167,10 +167,6 @@ freed-read : (nodes dots : List ℕ) (rects : List ℤ) (p head : ℕ) → HasPl
 freed-read nodes dots rects p head hp hr =
     next-stored nodes (setIdAt dots p (zeroDot .id)) (setRectAt rects p (zeroDot .rect)) p head (omega (arith, id-length dots p (zeroDot .id)))
     ∙ ap (λ (m : Mem). setNext m p head) (dot-stored nodes dots rects p zeroDot hp hr)
-
--- a word that is stored as it was
-changed-id : {A : Type 0} (f : ℕ → A) (a : ℕ) → changed f a (f a) ≡ f
-changed-id f a = fun-ext (λ k. byDec (ℕ-discrete k a) (λ e. ap (changed f a (f a)) e ∙ changed-same f a (f a) ∙ ap f (sym e)) (λ ne. changed-other f a (f a) k ne))
 
 -- the rows and the state that the code leaves: the dot at hit leaves the chain of the node b
 abbrev pub nodesWithout : List ℕ → List ℕ → ℕ → Hit → List ℕ

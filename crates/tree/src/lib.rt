@@ -1,3 +1,4 @@
 // The operations on a tree in the lent memory, without the check.
 pub mod find;
 pub mod remove;
+pub mod split;
