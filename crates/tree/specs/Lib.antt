@@ -24,3 +24,5 @@ pub mod Removes
 pub mod Dealing
 pub mod Splitting
 pub mod Growing
+pub mod FreeLists
+pub mod Counting

@@ -1,4 +1,5 @@
 // The operations on a tree in the lent memory, without the check.
 pub mod find;
+pub mod needed;
 pub mod remove;
 pub mod split;
