@@ -107,7 +107,7 @@ split-done nodes dots rects node cell first chain nodes₁ nodes′ dots′ e e�
 
 -- ---- a leaf of a stored tree
 
-chained-standing : (dots : List ℕ) (rects : List ℤ) (firsts counts : ℕ → ℕ) (h n : ℕ) (ds : List Placed)
+pub chained-standing : (dots : List ℕ) (rects : List ℤ) (firsts counts : ℕ → ℕ) (h n : ℕ) (ds : List Placed)
     → ((p : ℕ) → 1 ≤ sumOver (atPlace p) ds → HasPlace dots p × HasRect rects p) → n ≡ length ds
     → Chained (record { first = firsts; count = counts; dot = dotAt dots rects; next = nextAt dots }) h ds none → Standing dots rects h n ds
 chained-standing dots rects firsts counts h n [] inside e c = e

@@ -3,7 +3,8 @@ use mathlib.Core.Path.{_≡_}
 use native.Mathlib.Omega.{arith}
 use Rattle.model.specs.Layout.{none}
 use Rattle.tree.specs.Routes.{holds-way}
-use Rattle.tree.specs.Removes.{Looked, Takes, leads-has, leads-searchable, look-takes, look-no, look-yes}
+use Rattle.tree.specs.Leaves.{leads-has}
+use Rattle.tree.specs.Removes.{Looked, Takes, leads-searchable, look-takes, look-no, look-yes}
 use borrow.Author.Needs.{needs}
 use Rattle.tree.proofs.remove.remove_dot.Statement.{statement}
 use Rattle.tree.proofs.remove.remove_dot.Tie as tie
