@@ -7,6 +7,11 @@
 --     Removals     a dot taken out of its chain; the whole cleanup
 --     Inserts      the insert's loop
 --     Joins        from a world that holds a shape to its memory, and back
+-- And the same in the rows, which the code reads and stores in:
+--     Operations   what an operation without the check asks and leaves
+--     Readings     the rows read as memory; a store into a row
+--     Routes       the way of a rectangle to its leaf
+--     Chains, Leaves       a chain and a leaf in the rows
 pub mod Frames
 pub mod Paths
 pub mod Stores
@@ -16,17 +21,7 @@ pub mod Removals
 pub mod Inserts
 pub mod Joins
 pub mod Operations
-pub mod Answers
 pub mod Readings
 pub mod Routes
-pub mod Dealing
-pub mod Splitting
-pub mod Leaves
 pub mod Chains
-pub mod Removes
-pub mod FreeLists
-pub mod Counting
-pub mod Growing
-pub mod Arrivals
-pub mod Landings
-pub mod Refusals
+pub mod Leaves
