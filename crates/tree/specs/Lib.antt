@@ -7,6 +7,11 @@
 --     Removals     a dot taken out of its chain; the whole cleanup
 --     Inserts      the insert's loop
 --     Joins        from a world that holds a shape to its memory, and back
+-- And the same in the rows, which the code reads and stores in:
+--     Operations   what an operation without the check asks and leaves
+--     Readings     the rows read as memory; a store into a row
+--     Routes       the way of a rectangle to its leaf
+--     Chains, Leaves       a chain and a leaf in the rows
 pub mod Frames
 pub mod Paths
 pub mod Stores
@@ -19,5 +24,4 @@ pub mod Operations
 pub mod Readings
 pub mod Routes
 pub mod Chains
-pub mod Answers
-pub mod Removes
+pub mod Leaves

@@ -1,7 +1,8 @@
 -- The rows read as memory: what a store into a row is there.
 --     read         the memory that three rows hold
+--     changed-id   a store of what was there
 --     node-stored, next-stored, dot-stored     one law a kind of store
-use mathlib.Core.Path.{_≡_, ap, _∙_}
+use mathlib.Core.Path.{_≡_, refl, sym, ap, _∙_}
 use mathlib.Core.List.{List}
 use Prim.Native.Nat.{ℕ}
 use lib.IntN.{ℤ}
@@ -13,6 +14,10 @@ use Rattle.memory.specs.declared.node.Node.{Node}
 use Rattle.memory.specs.Rows.{HasNode, HasPlace, HasRect, setNodeAt, setNextAt, setIdAt, setRectAt}
 use Rattle.memory.specs.Laws.{changed-by, first-set, count-set, next-set, id-set, id-next, next-id, rect-set}
 use Rattle.tree.specs.Stores.{setFirst, setCount, setDot, setNext}
+
+-- a word that is stored as it was
+pub changed-id : {A : Type 0} (f : ℕ → A) (a : ℕ) → changed f a (f a) ≡ f
+changed-id f a = sym (changed-by f f a (f a) refl (λ k ne. refl))
 
 abbrev pub read : List ℕ → List ℕ → List ℤ → Mem
 read nodes dots rects = record { first = firstAt nodes; count = countAt nodes; dot = dotAt dots rects; next = nextAt dots }

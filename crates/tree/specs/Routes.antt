@@ -138,7 +138,10 @@ holds-way w x h =
 abbrev pub stepsLeft : NodeData → ℕ
 stepsLeft n = cond (n .«is_child_0») 0 1 + 2 * (256 - n .depth)
 
-steps-fall : (n : NodeData) (i : ℕ) → n .«is_child_0» ≡ false → n .depth < 255 → stepsLeft (childData n i) < stepsLeft n
+pub steps-most : (n : NodeData) → stepsLeft n ≤ 513
+steps-most n = byBool (n .«is_child_0») (λ e. rw e (omega arith)) (λ e. rw e (omega arith))
+
+pub steps-fall : (n : NodeData) (i : ℕ) → n .«is_child_0» ≡ false → n .depth < 255 → stepsLeft (childData n i) < stepsLeft n
 unfolding childData
 steps-fall n i e d = rw e (byBool (eqb i 0) (λ z. rw z (omega arith)) (λ z. rw z (omega arith)))
 

@@ -78,7 +78,7 @@ node-not-free t b g i l z c e =
 -- ---- push
 
 -- node b is a leaf; d's place is the head of the free places
-pub pushWords : Mem → ℕ → Placed → Mem
+unfoldable pub pushWords : Mem → ℕ → Placed → Mem
 pushWords m b d =
     let p = d .place in
     setCount (setFirst (setNext (setDot m p (d .dot)) p (m .first b)) b p) b (m .count b + 1)

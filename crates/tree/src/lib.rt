@@ -1,3 +1,2 @@
-// The operations on a tree in the lent memory, without the check.
+// What the operations on a tree in the lent memory share: the way to a leaf, and the laws of stores.
 pub mod find;
-pub mod remove;

@@ -1,9 +1,9 @@
--- What each answer of an operation says: the state after it, and document 01's reply.
+-- What each answer says: the state after it, and document 01's reply.
 use mathlib.Core.Bool.{Bool, true, false}
 use Rattle.model.specs.declared.State.{State}
 use Rattle.model.specs.Calls.{Reply, answered}
-use Rattle.tree.specs.declared.remove.Removed.{Removed}
-use Rattle.tree.specs.declared.remove.Removed.the-variants.{Yes, No}
+use Rattle.remove.specs.declared.Removed.{Removed}
+use Rattle.remove.specs.declared.Removed.the-variants.{Yes, No}
 
 abbrev pub removedState : State → Removed → State
 removedState s (Yes s′) = s′

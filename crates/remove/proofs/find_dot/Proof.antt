@@ -4,9 +4,9 @@ use Prim.Native.Nat.{_-_}
 use native.Mathlib.Omega.{arith}
 use Rattle.model.specs.Layout.{none}
 use Rattle.memory.specs.Rows.{HasPlace}
-use Rattle.tree.specs.Chains.{Searching, linked-here, hit-over, hit-here, hit-on}
-use Rattle.tree.proofs.remove.find_dot.Statement.{statement}
-use Rattle.tree.proofs.remove.find_dot.Tie as tie
+use Rattle.remove.specs.Search.{Searching, linked-here, hit-over, hit-here, hit-on}
+use Rattle.remove.proofs.find_dot.Statement.{statement}
+use Rattle.remove.proofs.find_dot.Tie as tie
 
 abbrev Inv-loop : tie.InvT-loop
 Inv-loop dots id at₀ previous₀ left₀ at previous left = Searching dots id at₀ previous₀ left₀ at previous left

@@ -1,13 +1,12 @@
 -- The remove in the words: what its code finds and stores, from a world that holds a shape.
---     leaf-linked, leaf-has        the chain of the leaf that a rectangle routes to stands in the dots, its node in the nodes
+--     leaf-linked  the chain of the leaf that a rectangle routes to, as the search reads it
 --     Found, found-split, hit-absent       where a dot with the id stands in its chain, or that there is none
 --     Takeable, takeable   what the stores ask
 --     removed-holds        the stores leave the removed shape
-use mathlib.Core.Path.{_≡_, refl, ap, sym, _∙_, subst, fun-ext}
+use mathlib.Core.Path.{_≡_, refl, ap, sym, _∙_, subst}
 use mathlib.Core.List.{List, [], _∷_, _++_}
 use mathlib.Core.Bool.{true, false}
 use Prim.Native.Nat.{ℕ, _+_, _-_, _≤_, _<_}
-use native.Mathlib.Decide.{decLt, ℕ-discrete}
 use native.Mathlib.Omega.{arith}
 use lib.IntN.{ℤ}
 use lib.ListN.{length, replicate, length-replicate, length-append}
@@ -15,97 +14,46 @@ use Rattle.arithmetic.specs.Tests.{byBool, true-false}
 use borrow.Author.Tests.{eq-eqb, ne-eqb}
 use lib.Dec.{eqb}
 use Rattle.geometry.specs.declared.aabb.AABB.{AABB}
-use Rattle.geometry.specs.declared.settings.Settings.{Settings}
-use Rattle.geometry.specs.declared.node_data.NodeData.{NodeData}
-use Rattle.geometry.specs.Cells.{rootData, childData, route}
-use Rattle.geometry.specs.Laws.Geometry.{route-child}
 use Rattle.model.specs.declared.State.{State}
-use Rattle.model.specs.Sums.{changed, changed-same, changed-other, indicator-same, sumOver, sumOver-append, sumOver-one, byDec}
+use Rattle.model.specs.declared.Dot.{Dot}
+use Rattle.model.specs.Sums.{changed, indicator-same, sumOver, sumOver-append, sumOver-one}
 use Rattle.model.specs.Dots.{matches, zeroDot}
-use Rattle.model.specs.Trees.{Placed, Tree, leaf, branch, childNode, sumDots, atPlace, placeCount, size}
+use Rattle.model.specs.Trees.{Placed, Tree, leaf, atPlace, size}
 use Rattle.model.specs.Remove.{firstHas, firstOut, firstPlace, removeAt, removePlace}
 use Rattle.model.specs.Shapes.{Shape, root, foundBy, removed}
 use Rattle.model.specs.Layout.{World, world, none, Holds}
-use Rattle.model.specs.Memory.{Mem, firstAt, countAt, idAt, nextAt, dotAt, Chained, Represents, memory}
+use Rattle.model.specs.Memory.{Mem, firstAt, countAt, nextAt, memory}
 use Rattle.model.specs.Calls.{answered, exit, carriedOut, removeRule}
-use Rattle.model.specs.Laws.Layout.{holds-settings}
-use Rattle.model.specs.Laws.Shapes.{below-no, removed-valid}
+use Rattle.model.specs.Laws.Shapes.{removed-valid}
 use Rattle.model.specs.Laws.Remove.{found-gone}
 use Rattle.model.specs.Laws.Memory.{holds-represented}
 use Rattle.memory.specs.declared.node.Node.{Node}
 use Rattle.memory.specs.Nodes.{nodeAt}
 use Rattle.memory.specs.Rows.{HasNode, HasPlace, HasRect, setNodeAt, setNextAt, setIdAt, setRectAt}
 use Rattle.memory.specs.Laws.{node-length, next-length, id-length, rect-length}
 use Rattle.tree.specs.declared.find.Leaf.{Leaf}
-use Rattle.tree.specs.declared.remove.Hit.{Hit}
+use Rattle.remove.specs.declared.Hit.{Hit}
 use Rattle.tree.specs.Operations.{same-marks, shaped-exit}
-use Rattle.tree.specs.Paths.{Children, put, sumDots-sub, tree-sub}
+use Rattle.tree.specs.Paths.{put}
 use Rattle.tree.specs.Paths as paths
 use Rattle.tree.specs.Stores.{setCount, setNext, Stored}
 use Rattle.tree.specs.Removals.{freeWords, popWords, pop-holds, dropWords, drop-holds}
-use Rattle.tree.specs.Inserts.{reach-children}
 use Rattle.tree.specs.Joins.{holds-stored, stored-holds}
-use Rattle.tree.specs.Readings.{read, setNode, node-stored, next-stored, dot-stored}
-use Rattle.tree.specs.Routes.{leafFor, chainFor, pathTo, path-reach, path-sub, path-node, says-path, place-path, remove-path, Guided, holds-guided, LeadsTo}
-use Rattle.tree.specs.Chains.{hitIn, Linked, Searchable, unlinkedNode, unlinkedDots}
+use Rattle.tree.specs.Readings.{changed-id, read, setNode, node-stored, next-stored, dot-stored}
+use Rattle.tree.specs.Routes.{leafFor, chainFor, pathTo, path-sub, path-node, says-path, place-path, remove-path, LeadsTo}
+use Rattle.tree.specs.Chains.{Standing}
+use Rattle.tree.specs.Leaves.{way-children, here-sum, here-place, here-count, here-standing, here-inside, leads-leaf}
+use Rattle.remove.specs.Search.{hitIn, Linked, Searchable, unlinkedNode, unlinkedDots}
 
 -- ---- the leaf
 
-chained-linked : (dots : List ℕ) (rects : List ℤ) (m : Mem) (ids : m .dot ≡ dotAt dots rects) (nexts : m .next ≡ nextAt dots) (h n : ℕ) (ds : List Placed)
-    → ((p : ℕ) → 1 ≤ sumOver (atPlace p) ds → HasPlace dots p) → n ≡ length ds → Chained m h ds none → Linked dots h n ds
-chained-linked dots rects m ids nexts h n [] inside e c = e
-chained-linked dots rects m ids nexts h n (d ∷ ds) inside e c =
-    let p = d .place in (
-      c .0,
-      subst (HasPlace dots) (sym (c .0)) (inside p (omega (arith, indicator-same p))),
-      ap (idAt dots) (c .0) ∙ ap (λ (f : ℕ → Rattle.model.specs.declared.Dot.Dot). f p .id) (sym ids) ∙ ap (λ (y : Rattle.model.specs.declared.Dot.Dot). y .id) (c .1),
-      omega arith,
-      subst (λ (y : ℕ). Linked dots y (n - 1) ds) (ap (λ (f : ℕ → ℕ). f p) nexts ∙ ap (nextAt dots) (sym (c .0)))
-          (chained-linked dots rects m ids nexts (m .next p) (n - 1) ds (λ k b. inside k (omega arith)) (omega arith) (c .2)),
-    )
+standing-linked : (dots : List ℕ) (rects : List ℤ) (h n : ℕ) (ds : List Placed) → Standing dots rects h n ds → Linked dots h n ds
+standing-linked dots rects h n [] s = s
+standing-linked dots rects h n (d ∷ ds) s = (s .0, s .1, ap (λ (y : Dot). y .id) (s .3), s .4, standing-linked dots rects (nextAt dots h) (n - 1) ds (s .5))
 
 module _ (w : World) (x : Shape) (h : Holds w x) (r : AABB) where
-  abbrev spot : ℕ
-  spot = leafFor r (root x) 0 (x .tree) .node
-
-  abbrev here : List Placed
-  here = chainFor r (root x) (x .tree)
-
-  abbrev way : List ℕ
-  way = pathTo r (root x) (x .tree)
-
-  way-children : Children way
-  way-children = reach-children (x .tree) way (path-reach r (root x) (x .tree))
-
-  -- a place of the chain is a place of the tree
-  here-in : (k : ℕ) → sumOver (atPlace k) here ≤ placeCount k (x .tree)
-  here-in k = omega (arith, sumDots-sub (atPlace k) (x .tree) way way-children, ap (sumDots (atPlace k)) (path-sub r (root x) (x .tree)))
-
-  pub place-inside : (k : ℕ) → 1 ≤ sumOver (atPlace k) here → k < x .places
-  place-inside k c = byDec (decLt k (x .places)) (λ l. l) (λ l. absurd (omega (arith, h .valid .placesOnce k, below-no k (x .places) (omega arith), here-in k)))
-
-  pub leaf-represents : Represents (memory w) spot (leaf here)
-  leaf-represents =
-      subst (λ (a : ℕ). Represents (memory w) a (leaf here)) (path-node r (root x) 0 (x .tree))
-      (subst (λ (u : Tree). Represents (memory w) (paths.nodeAt 0 (x .tree) way) u) (path-sub r (root x) (x .tree))
-      (tree-sub (memory w) 0 (x .tree) way way-children (holds-represented w x h .tree)))
-
-  pub leaf-linked : Linked (w .dots) (firstAt (w .nodes) spot) (countAt (w .nodes) spot) here
-  leaf-linked =
-      let l = holds-represented w x h in
-      chained-linked (w .dots) (w .rects) (memory w) refl refl (firstAt (w .nodes) spot) (countAt (w .nodes) spot) here
-      (λ p b. omega (arith, place-inside p b, l .dots)) (leaf-represents .0) (leaf-represents .1)
-
-  pub leaf-searchable : Searchable (w .dots) (nodeAt (w .nodes) spot)
-  leaf-searchable =
-      record { short = omega (arith, holds-represented w x h .dots, h .valid .placesFit); chain = here; linked = leaf-linked }
-
-guided-leaf : (nodes : List ℕ) (r : AABB) (n : NodeData) (a : ℕ) (t : Tree) → Guided nodes n a t → HasNode nodes (leafFor r n a t .node)
-guided-leaf nodes r n a (leaf chain) g = g .0
-guided-leaf nodes r n a (branch k f) g = let i = route n r in guided-leaf nodes r (childData n i) (childNode k i) (f i) (g .5 i (route-child n r))
-
-pub leaf-has : (w : World) (x : Shape) → Holds w x → (r : AABB) → HasNode (w .nodes) (leafFor r (root x) 0 (x .tree) .node)
-leaf-has w x h r = guided-leaf (w .nodes) r (root x) 0 (x .tree) (holds-guided w x h)
+  leaf-linked : let a = leafFor r (root x) 0 (x .tree) .node in Linked (w .dots) (firstAt (w .nodes) a) (countAt (w .nodes) a) (chainFor r (root x) (x .tree))
+  leaf-linked = standing-linked (w .dots) (w .rects) _ _ (chainFor r (root x) (x .tree)) (here-standing w x h r)
 
 -- ---- where the dot stands in its chain
 
@@ -168,10 +116,6 @@ freed-read nodes dots rects p head hp hr =
     next-stored nodes (setIdAt dots p (zeroDot .id)) (setRectAt rects p (zeroDot .rect)) p head (omega (arith, id-length dots p (zeroDot .id)))
     ∙ ap (λ (m : Mem). setNext m p head) (dot-stored nodes dots rects p zeroDot hp hr)
 
--- a word that is stored as it was
-changed-id : {A : Type 0} (f : ℕ → A) (a : ℕ) → changed f a (f a) ≡ f
-changed-id f a = fun-ext (λ k. byDec (ℕ-discrete k a) (λ e. ap (changed f a (f a)) e ∙ changed-same f a (f a) ∙ ap f (sym e)) (λ ne. changed-other f a (f a) k ne))
-
 -- the rows and the state that the code leaves: the dot at hit leaves the chain of the node b
 abbrev pub nodesWithout : List ℕ → List ℕ → ℕ → Hit → List ℕ
 nodesWithout nodes dots b hit = setNodeAt nodes b (unlinkedNode dots (nodeAt nodes b) hit)
@@ -214,14 +158,14 @@ module _ (s : State) (nodes dots : List ℕ) (rects : List ℤ) (marks : List �
       → 1 ≤ length chain₀ → Takeable hit
   taken hit p e i j n =
       let rep = holds-represented w₀ x h in
-      let l : p < x .places = place-inside w₀ x h r p i in
+      let l : p < x .places = here-place w₀ x h r p i in
       let z : size (x .tree) ≡ s .live = sym (rep .live) in
       record {
-        count = omega (arith, leaf-represents w₀ x h r .0);
+        count = omega (arith, here-count w₀ x h r);
         place = omega (arith, rep .dots);
         rect = omega (arith, rep .rects);
-        previous = λ ne. omega (arith, place-inside w₀ x h r (hit .previous) (j ne), rep .dots);
-        live = omega (arith, sumDots-sub (λ d. 1) (x .tree) path₀ (way-children w₀ x h r), ap (sumDots (λ d. 1)) (path-sub r (root x) (x .tree)), sumOver-one chain₀);
+        previous = λ ne. omega (arith, here-place w₀ x h r (hit .previous) (j ne), rep .dots);
+        live = omega (arith, here-sum w₀ x h r (λ d. 1), sumOver-one chain₀);
       }
 
   pub takeable : (hit : Hit) → Found id chain₀ hit → Takeable hit
@@ -238,7 +182,7 @@ module _ (s : State) (nodes dots : List ℕ) (rects : List ℤ) (marks : List �
   -- a place of the chain is not none
   not-none : (p : ℕ) → 1 ≤ sumOver (atPlace p) chain₀ → ¬ (p ≡ none)
   unfolding none
-  not-none p i e = omega (arith, place-inside w₀ x h r p i, h .valid .placesFit)
+  not-none p i e = omega (arith, here-place w₀ x h r p i, h .valid .placesFit)
 
   pub found-some : (hit : Hit) → Found id chain₀ hit → ¬ (hit .place ≡ none)
   found-some hit (atHead d ys c o p e) z =
@@ -259,7 +203,7 @@ module _ (s : State) (nodes dots : List ℕ) (rects : List ℤ) (marks : List �
       let v : Node = record { first = nextAt dots p; count = countAt nodes b₀ - 1 } in
       let start : after hit ≡ read (setNodeAt nodes b₀ v) (setNextAt (setIdAt dots p (zeroDot .id)) p (s .«free_place»)) (setRectAt rects p (zeroDot .rect)) = rw y refl in
       start ∙ freed-read (setNodeAt nodes b₀ v) dots rects p (s .«free_place») hp hr
-      ∙ ap (λ (m : Mem). freeWords m p (s .«free_place»)) (node-stored nodes dots rects b₀ v (leaf-has w₀ x h r))
+      ∙ ap (λ (m : Mem). freeWords m p (s .«free_place»)) (node-stored nodes dots rects b₀ v (here-inside w₀ x h r))
 
   behind-read : (p q : ℕ) → ¬ (q ≡ none) → HasPlace dots p → HasRect rects p → HasPlace dots q
       → after (record { place = p; previous = q }) ≡ dropWords (memory w₀) b₀ q p (s .«free_place»)
@@ -274,7 +218,7 @@ module _ (s : State) (nodes dots : List ℕ) (rects : List ℤ) (marks : List �
       (λ i. record { first = changed-id (m .first) b₀ i; count = changed (m .count) b₀ (m .count b₀ - 1); dot = m .dot; next = changed (m .next) q (m .next p) }) in
       start ∙ freed-read (setNodeAt nodes b₀ v) linked rects p (s .«free_place») (omega (arith, next-length dots q (nextAt dots p))) hr
       ∙ ap (λ (z : Mem). freeWords z p (s .«free_place»))
-      (node-stored nodes linked rects b₀ v (leaf-has w₀ x h r) ∙ ap (λ (z : Mem). setNode z b₀ v) (next-stored nodes dots rects q (nextAt dots p) hq) ∙ same)
+      (node-stored nodes linked rects b₀ v (here-inside w₀ x h r) ∙ ap (λ (z : Mem). setNode z b₀ v) (next-stored nodes dots rects q (nextAt dots p) hq) ∙ same)
 
   -- ---- the shape after the stores
 
@@ -350,18 +294,11 @@ pub record Takes (s : State) (nodes dots : List ℕ) (rects : List ℤ) (l : Lea
   pub rect : HasRect rects (hit .place)
   pub live : 1 ≤ s .live
 
-pub leads-leaf : (w : World) (x : Shape) → Holds w x → (r : AABB) (l : Leaf) → LeadsTo (w .state .settings) (w .nodes) r l → l ≡ leafFor r (root x) 0 (x .tree)
-leads-leaf w x h r l leads =
-    let e = holds-settings w x h in
-    leads (x .tree) (subst (λ (y : Settings). Guided (w .nodes) (rootData y) 0 (x .tree)) (sym e) (holds-guided w x h)) ∙ ap (λ (y : Settings). leafFor r (rootData y) 0 (x .tree)) e
-
-pub leads-has : (w : World) (x : Shape) → Holds w x → (r : AABB) (l : Leaf) → LeadsTo (w .state .settings) (w .nodes) r l → HasNode (w .nodes) (l .node)
-leads-has w x h r l leads = subst (λ (y : Leaf). HasNode (w .nodes) (y .node)) (sym (leads-leaf w x h r l leads)) (leaf-has w x h r)
-
 pub leads-searchable : (w : World) (x : Shape) → Holds w x → (r : AABB) (l : Leaf) → LeadsTo (w .state .settings) (w .nodes) r l → (node : Node) → node ≡ nodeAt (w .nodes) (l .node)
     → Searchable (w .dots) node
 leads-searchable w x h r l leads node e =
-    subst (Searchable (w .dots)) (sym (e ∙ ap (λ (y : Leaf). nodeAt (w .nodes) (y .node)) (leads-leaf w x h r l leads))) (leaf-searchable w x h r)
+    subst (Searchable (w .dots)) (sym (e ∙ ap (λ (y : Leaf). nodeAt (w .nodes) (y .node)) (leads-leaf w x h r l leads)))
+    (record { short = omega (arith, holds-represented w x h .dots, h .valid .placesFit); chain = chainFor r (root x) (x .tree); linked = leaf-linked w x h r })
 
 module _ (s : State) (nodes dots : List ℕ) (rects : List ℤ) (marks : List ℕ) (x : Shape) (h : Holds (world s nodes dots rects marks) x) (id : ℕ) (r : AABB)
     (l : Leaf) (node : Node) (hit : Hit) (look : Looked s nodes dots id r l node hit) where
@@ -395,7 +332,7 @@ module _ (s : State) (nodes dots : List ℕ) (rects : List ℤ) (marks : List �
   look-takes ne =
       let t = takeable s nodes dots rects marks x h id r hit (has-found ne .1) in
       record {
-        unlinks = (subst (HasNode nodes) (sym at-leaf) (leaf-has (world s nodes dots rects marks) x h r), subst (λ (v : Node). 1 ≤ v .count) (sym at-words) (t .count), t .place, t .previous);
+        unlinks = (subst (HasNode nodes) (sym at-leaf) (here-inside (world s nodes dots rects marks) x h r), subst (λ (v : Node). 1 ≤ v .count) (sym at-words) (t .count), t .place, t .previous);
         rect = t .rect;
         live = t .live;
       }

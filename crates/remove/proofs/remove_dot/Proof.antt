@@ -2,11 +2,12 @@
 use mathlib.Core.Path.{_≡_}
 use native.Mathlib.Omega.{arith}
 use Rattle.model.specs.Layout.{none}
 use Rattle.tree.specs.Routes.{holds-way}
-use Rattle.tree.specs.Removes.{Looked, Takes, leads-has, leads-searchable, look-takes, look-no, look-yes}
+use Rattle.tree.specs.Leaves.{leads-has}
+use Rattle.remove.specs.Removes.{Looked, Takes, leads-searchable, look-takes, look-no, look-yes}
 use borrow.Author.Needs.{needs}
-use Rattle.tree.proofs.remove.remove_dot.Statement.{statement}
-use Rattle.tree.proofs.remove.remove_dot.Tie as tie
+use Rattle.remove.proofs.remove_dot.Statement.{statement}
+use Rattle.remove.proofs.remove_dot.Tie as tie
 
 -- what the code has looked up
 looked : (c : tie.After-find-dot) → Looked (c .before .before .before .before .before .before .before .before .before .args .state) (c .before .before .before .before .before .before .before .before .before .args .nodes .now) (c .before .before .before .before .before .before .before .before .before .args .dots .now) (c .before .before .before .before .before .before .before .before .before .args .id) (c .before .before .before .before .before .before .before .before .before .args .rect) (c .before .before .before .before .find-leaf .result) (c .before .before .node-at .result) (c .find-dot .result)

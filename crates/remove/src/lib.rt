@@ -1,4 +1,4 @@
-// Remove: the first dot with an id in the leaf that a rectangle routes to goes, and its place is free.
+// Remove without the check: the first dot with an id in the leaf that a rectangle routes to goes, and its place is free.
 ghost use mathlib.Core.Path.{_≡_};
 ghost use mathlib.Core.List.{List};
 ghost use Prim.Native.Nat.{_≤_};
@@ -7,10 +7,9 @@ ghost use Rattle.model.specs.Layout.{none};
 ghost use Rattle.model.specs.Trees.{Placed};
 ghost use Rattle.model.specs.Calls.{removeRule};
 ghost use Rattle.memory.specs.Rows.{HasNode, HasPlace, HasRect, setNodeAt, setNextAt, setIdAt, setRectAt};
 ghost use Rattle.tree.specs.Operations.{IsTree, CarriedOut};
-ghost use Rattle.tree.specs.Chains.{Searchable, hitIn, Linked, unlinkedNode, unlinkedDots};
-ghost use Rattle.tree.specs.Answers.{removedState, removedReply};
-use crate::find::find_leaf;
+ghost use Rattle.remove.specs.Search.{Searchable, hitIn, Linked, unlinkedNode, unlinkedDots};
+ghost use Rattle.remove.specs.Answers.{removedState, removedReply};
 use geometry::aabb::AABB;
 use memory::node::Node;
 use memory::places::id_at;
@@ -21,6 +20,7 @@ use memory::words::set_next;
 use memory::words::set_node;
 use model::Dot;
 use model::State;
+use tree::find::find_leaf;
 
 // Yes, with the state after it; or no, and nothing is changed.
 pub enum Removed {

@@ -2,10 +2,10 @@
 use mathlib.Core.Path.{ap, _∙_}
 use Rattle.model.specs.Layout.{none}
 use Rattle.memory.specs.Rows.{setNodeAt}
-use Rattle.tree.specs.Chains.{unlinked-head, unlinked-later}
+use Rattle.remove.specs.Search.{unlinked-head, unlinked-later}
 use borrow.Author.Needs.{needs}
-use Rattle.tree.proofs.remove.unlink.Statement.{statement}
-use Rattle.tree.proofs.remove.unlink.Tie as tie
+use Rattle.remove.proofs.unlink.Statement.{statement}
+use Rattle.remove.proofs.unlink.Tie as tie
 
 cast-place : tie.Need-cast-place
 cast-place c = search needs

@@ -4,8 +4,8 @@ use mathlib.Core.List.{List}
 use Prim.Native.Nat.{ℕ}
 use Rattle.memory.specs.Rows.{setNextAt}
 use borrow.Author.Needs.{needs}
-use Rattle.tree.proofs.remove.free_place.Statement.{statement}
-use Rattle.tree.proofs.remove.free_place.Tie as tie
+use Rattle.remove.proofs.free_place.Statement.{statement}
+use Rattle.remove.proofs.free_place.Tie as tie
 
 set-dot-requires : tie.Need-set-dot-requires
 set-dot-requires c κs = search needs

@@ -1,0 +1,165 @@
+-- The deal of a chain to the children of a group: what its loop asks, and what it leaves.
+--     Dealable, Dealt      what the loop asks; the memory after it is that of `dealWords`
+--     linked-read          a place put at the head of a leaf's chain
+--     deal-turn    one turn of the loop; deal-over: its end
+use mathlib.Core.Path.{_≡_, refl, ap, sym, _∙_, subst}
+use mathlib.Core.List.{List, [], _∷_}
+use Prim.Native.Nat.{ℕ, _+_, _-_, _≤_, _<_}
+use native.Mathlib.Omega.{arith}
+use lib.IntN.{ℤ}
+use Rattle.geometry.specs.declared.aabb.AABB.{AABB}
+use Rattle.geometry.specs.declared.centered_aabb.CenteredAABB.{CenteredAABB}
+use Rattle.geometry.specs.declared.node_data.NodeData.{NodeData}
+use Rattle.geometry.specs.Cells.{routeCell, route}
+use Rattle.geometry.specs.Laws.Geometry.{route-child}
+use Rattle.model.specs.declared.Dot.{Dot}
+use Rattle.model.specs.Sums.{indicator, indicator-same, sumOver, changed-other, changed-all}
+use Rattle.model.specs.Trees.{Placed, childNode, atPlace}
+use Rattle.model.specs.Insert.{routeDot}
+use Rattle.model.specs.Memory.{Mem, firstAt, countAt, nextAt, rectAt}
+use Rattle.memory.specs.declared.node.Node.{Node}
+use Rattle.memory.specs.Rows.{HasNode, HasPlace, HasRect, setNodeAt, setNextAt}
+use Rattle.memory.specs.Laws.{node-length, next-length, next-set, id-next, count-set}
+use Rattle.tree.specs.Stores.{setNext}
+use Rattle.tree.specs.Chains.{Standing}
+use Rattle.tree.specs.Splits.{dealWords}
+use Rattle.tree.specs.Readings.{read, setNode, node-stored, next-stored}
+
+pub record Dealable (nodes dots : List ℕ) (rects : List ℤ) (first head count : ℕ) : Type 0 where
+  pub group : ℕ
+  pub starts : first ≡ childNode group 0
+  pub chain : List Placed
+  pub standing : Standing dots rects head count chain
+  pub once : (k : ℕ) → sumOver (atPlace k) chain ≤ 1
+  pub nodesIn : HasNode nodes (first + 4)
+  pub small : (j : ℕ) → j < 5 → countAt nodes (first + j) + count ≤ 65536
+
+-- by the node data of a node with this cell
+abbrev pub Dealt : List ℕ → List ℕ → List ℤ → CenteredAABB → ℕ → ℕ → ℕ → List ℕ → List ℕ → Type 0
+Dealt nodes dots rects cell first head count nodes′ dots′ =
+    (n : NodeData) → n .cell ≡ cell → (s : Dealable nodes dots rects first head count)
+    → read nodes′ dots′ rects ≡ dealWords n (read nodes dots rects) (s .group) (s .chain)
+
+-- a place is put at the head of a leaf's chain
+abbrev pub linkWords : Mem → ℕ → ℕ → Mem
+linkWords m a p = setNode (setNext m p (m .first a)) a (record { first = p; count = m .count a + 1 })
+
+pub linked-read : (nodes dots : List ℕ) (rects : List ℤ) (a p : ℕ) → HasNode nodes a → HasPlace dots p
+    → read (setNodeAt nodes a (record { first = p; count = countAt nodes a + 1 })) (setNextAt dots p (firstAt nodes a)) rects ≡ linkWords (read nodes dots rects) a p
+linked-read nodes dots rects a p hn hp =
+    let v : Node = record { first = p; count = countAt nodes a + 1 } in
+    node-stored nodes (setNextAt dots p (firstAt nodes a)) rects a v hn
+    ∙ ap (λ (m : Mem). setNode m a v) (next-stored nodes dots rects p (firstAt nodes a) hp)
+
+-- a store of a next that is none of the chain's
+standing-frame : (dots : List ℕ) (rects : List ℤ) (p v h n : ℕ) (ds : List Placed) → HasPlace dots p → sumOver (atPlace p) ds ≡ 0 → Standing dots rects h n ds
+    → Standing (setNextAt dots p v) rects h n ds
+standing-frame dots rects p v h n [] hp z s = s
+standing-frame dots rects p v h n (d ∷ ds) hp z s =
+    let ne : ¬ (h ≡ p) = λ e. omega (arith, ap (λ (y : ℕ). indicator p y) (sym (s .0) ∙ e), indicator-same p) in
+    let other : nextAt (setNextAt dots p v) h ≡ nextAt dots h = ap (λ (f : ℕ → ℕ). f h) (next-set dots p v hp) ∙ changed-other (nextAt dots) p v h ne in
+    let ids = ap (λ (f : ℕ → ℕ). f h) (id-next dots p v) in (
+      s .0,
+      omega (arith, s .1, next-length dots p v),
+      s .2,
+      (λ i. record { id = ids i; rect = rectAt rects h }) ∙ s .3,
+      s .4,
+      subst (λ (y : ℕ). Standing (setNextAt dots p v) rects y (n - 1) ds) (sym other) (standing-frame dots rects p v (nextAt dots h) (n - 1) ds hp (omega arith) (s .5)),
+    )
+
+-- ---- a turn
+
+module _ (nodes dots : List ℕ) (rects : List ℤ) (n : NodeData) (first at left : ℕ) (some : 1 ≤ left) where
+  -- what the turn asks, of the child that the place's rectangle goes to
+  pub record Turn (child : ℕ) : Type 0 where
+    pub place : HasPlace dots at
+    pub rect : HasRect rects at
+    pub child5 : child < 5
+    pub node : HasNode nodes (first + child)
+    pub count : countAt nodes (first + child) + left ≤ 65536
+
+  pub deal-asks : (s : Dealable nodes dots rects first at left) → Turn (routeCell (n .cell) (rectAt rects at))
+  deal-asks s = go (s .chain) (s .standing)
+    where
+      go : (ds : List Placed) → Standing dots rects at left ds → Turn (routeCell (n .cell) (rectAt rects at))
+      go [] g = absurd (omega arith)
+      go (d ∷ ds) g =
+          let i = route-child n (rectAt rects at) in
+          record { place = g .1; rect = g .2; child5 = i; node = omega (arith, s .nodesIn); count = s .small (route n (rectAt rects at)) i }
+
+  abbrev nodes₁ : ℕ → List ℕ
+  nodes₁ child = setNodeAt nodes (first + child) (record { first = at; count = countAt nodes (first + child) + 1 })
+
+  abbrev dots₁ : ℕ → List ℕ
+  dots₁ child = setNextAt dots at (firstAt nodes (first + child))
+
+  -- the rest is dealable, and dealing it is dealing the whole
+  pub deal-turn : (s : Dealable nodes dots rects first at left) → let child = routeCell (n .cell) (rectAt rects at) in
+      (r : Dealable (nodes₁ child) (dots₁ child) rects first (nextAt dots at) (left - 1))
+      × (dealWords n (read (nodes₁ child) (dots₁ child) rects) (r .group) (r .chain) ≡ dealWords n (read nodes dots rects) (s .group) (s .chain))
+  deal-turn s = go (s .chain) (s .standing) (s .once)
+    where
+      go : (ds : List Placed) → Standing dots rects at left ds → ((k : ℕ) → sumOver (atPlace k) ds ≤ 1) → let child = routeCell (n .cell) (rectAt rects at) in
+          (r : Dealable (nodes₁ child) (dots₁ child) rects first (nextAt dots at) (left - 1))
+          × (dealWords n (read (nodes₁ child) (dots₁ child) rects) (r .group) (r .chain) ≡ dealWords n (read nodes dots rects) (s .group) ds)
+      go [] g o = absurd (omega arith)
+      go (d ∷ ds) g o =
+          let child = routeCell (n .cell) (rectAt rects at) in
+          let b = first + child in
+          let i = route-child n (rectAt rects at) in
+          let hn : HasNode nodes b = omega (arith, s .nodesIn) in
+          let v : Node = record { first = at; count = countAt nodes b + 1 } in
+          let p = d .place in
+          let same : child ≡ routeDot n d = ap (λ (y : Dot). routeCell (n .cell) (y .rect)) (g .3) in
+          let to : b ≡ childNode (s .group) (routeDot n d) = omega (arith, s .starts) in
+          let free : sumOver (atPlace at) ds ≡ 0 = omega (arith, o at, ap (λ (y : ℕ). indicator at y) (sym (g .0)), indicator-same at) in
+          let rest : Dealable (nodes₁ child) (dots₁ child) rects first (nextAt dots at) (left - 1) =
+          record {
+            group = s .group;
+            starts = s .starts;
+            chain = ds;
+            standing = standing-frame dots rects at (firstAt nodes b) (nextAt dots at) (left - 1) ds (g .1) free (g .5);
+            once = λ k. omega (arith, o k);
+            nodesIn = omega (arith, s .nodesIn, node-length nodes b v);
+            small = λ j l.
+                subst (λ (f : ℕ → ℕ). f (first + j) + (left - 1) ≤ 65536) (sym (count-set nodes b v hn))
+                (changed-all (λ (k y : ℕ). k ≡ first + j → y + (left - 1) ≤ 65536) (countAt nodes) b (countAt nodes b + 1) (first + j)
+                (λ e z. omega (arith, s .small child i)) (λ ne z. omega (arith, s .small j l)) refl);
+          } in (
+            rest,
+            ap (λ (m : Mem). dealWords n m (s .group) ds)
+                (linked-read nodes dots rects b at hn (g .1) ∙ (λ k. linkWords (read nodes dots rects) (to k) (g .0 k))),
+          )
+
+-- what is left to deal is what there was to deal
+abbrev pub Dealing : List ℕ → List ℕ → List ℤ → CenteredAABB → ℕ → ℕ → ℕ → List ℕ → List ℕ → ℕ → ℕ → Type 0
+Dealing nodes₀ dots₀ rects cell first at₀ left₀ nodes dots at left =
+    (n : NodeData) → n .cell ≡ cell → (s : Dealable nodes₀ dots₀ rects first at₀ left₀)
+    → (r : Dealable nodes dots rects first at left) × (dealWords n (read nodes dots rects) (r .group) (r .chain) ≡ dealWords n (read nodes₀ dots₀ rects) (s .group) (s .chain))
+
+-- the same, of the values that the code has
+pub deal-on : (nodes₀ dots₀ : List ℕ) (rects : List ℤ) (cell : CenteredAABB) (first at₀ left₀ : ℕ) (nodes dots : List ℕ) (at left : ℕ)
+    → Dealing nodes₀ dots₀ rects cell first at₀ left₀ nodes dots at left → 1 ≤ left → (rect : AABB) (child next : ℕ) (nodes′ dots′ : List ℕ)
+    → rect ≡ rectAt rects at → child ≡ routeCell cell rect → next ≡ nextAt dots at
+    → nodes′ ≡ setNodeAt nodes (first + child) (record { first = at; count = countAt nodes (first + child) + 1 }) → dots′ ≡ setNextAt dots at (firstAt nodes (first + child))
+    → Dealing nodes₀ dots₀ rects cell first at₀ left₀ nodes′ dots′ next (left - 1)
+deal-on nodes₀ dots₀ rects cell first at₀ left₀ nodes dots at left going some rect child next nodes′ dots′ er ec ex en ed n e s =
+    let now = going n e s in
+    let turn = deal-turn nodes dots rects n first at left some (now .0) in
+    let to : routeCell (n .cell) (rectAt rects at) ≡ child = (λ i. routeCell (e i) (sym er i)) ∙ sym ec in
+    let node : ℕ → List ℕ = λ k. setNodeAt nodes (first + k) (record { first = at; count = countAt nodes (first + k) + 1 }) in
+    let link : ℕ → List ℕ = λ k. setNextAt dots at (firstAt nodes (first + k)) in
+    let goal : List ℕ → List ℕ → ℕ → Type 0 = λ x y z.
+    (r : Dealable x y rects first z (left - 1)) × (dealWords n (read x y rects) (r .group) (r .chain) ≡ dealWords n (read nodes₀ dots₀ rects) (s .group) (s .chain)) in
+    subst (λ (z : ℕ). goal nodes′ dots′ z) (sym ex)
+    (subst (λ (y : List ℕ). goal nodes′ y (nextAt dots at)) (ap link to ∙ sym ed)
+    (subst (λ (x : List ℕ). goal x (link (routeCell (n .cell) (rectAt rects at))) (nextAt dots at)) (ap node to ∙ sym en)
+    (turn .0, turn .1 ∙ now .1)))
+
+pub deal-over : (nodes dots : List ℕ) (rects : List ℤ) (n : NodeData) (first at : ℕ) (left : ℕ) → left ≡ 0 → (s : Dealable nodes dots rects first at left)
+    → dealWords n (read nodes dots rects) (s .group) (s .chain) ≡ read nodes dots rects
+deal-over nodes dots rects n first at left e s = go (s .chain) (s .standing)
+  where
+    go : (ds : List Placed) → Standing dots rects at left ds → dealWords n (read nodes dots rects) (s .group) ds ≡ read nodes dots rects
+    go [] g = refl
+    go (d ∷ ds) g = absurd (omega (arith, g .4))
