@@ -11,6 +11,8 @@ use Rattle.calls.specs.declared.leaves.LeavesAnswer.{LeavesAnswer}
 use Rattle.calls.specs.declared.leaves.LeavesAnswer.the-variants as leaves
 use Rattle.calls.specs.declared.cleanup.CleanupAnswer.{CleanupAnswer}
 use Rattle.calls.specs.declared.cleanup.CleanupAnswer.the-variants as cleanup
+use Rattle.calls.specs.declared.insert.InsertAnswer.{InsertAnswer}
+use Rattle.calls.specs.declared.insert.InsertAnswer.the-variants as insert
 use Rattle.calls.specs.declared.remove.RemoveAnswer.{RemoveAnswer}
 use Rattle.calls.specs.declared.remove.RemoveAnswer.the-variants as remove
 
@@ -39,6 +41,15 @@ cleanupReply (cleanup.Done yes? s) = answered yes?
 abbrev pub cleanupState : State → CleanupAnswer → State
 cleanupState s (cleanup.Refused k) = s
 cleanupState s (cleanup.Done yes? s′) = s′
+
+-- insert: the number of splits
+abbrev pub insertReply : InsertAnswer → Reply ℕ
+insertReply (insert.Refused k) = refused k
+insertReply (insert.Splits n s) = answered n
+
+abbrev pub insertState : State → InsertAnswer → State
+insertState s (insert.Refused k) = s
+insertState s (insert.Splits n s′) = s′
 
 -- remove: yes or no
 abbrev pub removeReply : RemoveAnswer → Reply Bool

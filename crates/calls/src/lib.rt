@@ -1,5 +1,6 @@
 // The public calls. Each begins with the check of the memory that it is lent.
 pub mod cleanup;
+pub mod insert;
 pub mod leaves;
 pub mod query;
 pub mod references;

@@ -4,9 +4,9 @@ ghost use Rattle.model.specs.Calls.{Remove};
 ghost use Rattle.calls.specs.Answers.{removeReply, removeState};
 use geometry::aabb::AABB;
 use model::State;
-use tree::remove::Removed;
-use tree::remove::remove_dot;
 use tree_check::check::check;
+use tree_remove::Removed;
+use tree_remove::remove_dot;
 
 // A refusal; yes, with the state after it; or no, and nothing is changed.
 pub enum RemoveAnswer {

@@ -1,6 +1,6 @@
 -- Each call obeys its statement: the check's refusal, and the operation without the check.
 --     query-refused, query-answered; all-refused, all-answered; leaves-refused, leaves-answered
---     remove-refused, remove-answered; cleanup-refused, cleanup-answered
+--     insert-refused, insert-answered; remove-refused, remove-answered; cleanup-refused, cleanup-answered
 use mathlib.Core.Path.{_≡_, sym, _∙_}
 use mathlib.Core.List.{List, []}
 use mathlib.Core.Bool.{Bool}
@@ -9,9 +9,10 @@ use lib.IntN.{ℤ}
 use lib.ListN.{length}
 use Rattle.geometry.specs.declared.aabb.AABB.{AABB}
 use Rattle.geometry.specs.Settings.{rootRect}
+use Rattle.model.specs.declared.Dot.{Dot}
 use Rattle.model.specs.declared.State.{State}
 use Rattle.model.specs.Layout.{world}
-use Rattle.model.specs.Calls.{Reply, refused, answered, Listed, Query, All, Leaves, Remove, Cleanup, queryRule, allRule, leavesRule, removeRule, cleanupRule}
+use Rattle.model.specs.Calls.{Reply, refused, answered, Listed, Query, All, Leaves, Insert, Remove, Cleanup, queryRule, leavesRule, insertRule, removeRule, cleanupRule}
 use Rattle.model.specs.Laws.Listing.{all-query}
 use Rattle.tree_check.specs.Checks.{Checked}
 use Rattle.tree.specs.Operations.{CarriedOut}
@@ -57,6 +58,18 @@ module _ (s : State) (nodes dots : List ℕ) (rects : List ℤ) (marks marks′ 
         → Leaves (world s nodes dots rects marks) row (world s nodes dots rects marks′) row′ reply
     unfolding Leaves LeavesListed
     leaves-answered z row′ reply done = call-carried s nodes dots rects marks marks′ answer c (leavesRule (length row)) row z s nodes dots rects row′ reply (done dots rects)
+
+  -- ---- insert
+
+  module _ (dot : Dot) where
+    pub insert-refused : (answer ≡ 0 → ⊥) → Insert (world s nodes dots rects marks) dot (world s nodes dots rects marks′) (refused answer)
+    unfolding Insert
+    insert-refused ne = call-refused s nodes dots rects marks marks′ answer c (insertRule dot) [] ne
+
+    pub insert-answered : answer ≡ 0 → (s′ : State) (nodes′ dots′ : List ℕ) (rects′ : List ℤ) (reply : Reply ℕ) → CarriedOut (insertRule dot) s nodes dots rects s′ nodes′ dots′ rects′ reply
+        → Insert (world s nodes dots rects marks) dot (world s′ nodes′ dots′ rects′ marks′) reply
+    unfolding Insert
+    insert-answered z s′ nodes′ dots′ rects′ reply done = call-carried s nodes dots rects marks marks′ answer c (insertRule dot) [] z s′ nodes′ dots′ rects′ [] reply done
 
   -- ---- remove
 

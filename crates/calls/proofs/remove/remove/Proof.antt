@@ -1,9 +1,9 @@
 -- The check, then the remove without it.
 use mathlib.Core.Path.{subst}
 use Rattle.model.specs.Calls.{removeRule}
-use Rattle.tree.specs.declared.remove.Removed.{Removed}
+use Rattle.tree_remove.specs.declared.Removed.{Removed}
 use Rattle.tree.specs.Operations.{CarriedOut}
-use Rattle.tree.specs.Answers.{removedState, removedReply}
+use Rattle.tree_remove.specs.Answers.{removedState, removedReply}
 use Rattle.calls.specs.Laws.Pattern.{checked-tree}
 use Rattle.calls.specs.Laws.Calls.{remove-refused, remove-answered}
 use borrow.Author.Needs.{needs}

@@ -1,0 +1,85 @@
+-- A loop whose invariant is that the count so far and that of what is left are the whole count.
+use mathlib.Core.Path.{_≡_, ap, sym, _∙_}
+use mathlib.Core.Logic.{⊎-elim}
+use mathlib.Core.Bool.{Bool, cond}
+use Prim.Native.Nat.{_+_, _≤_, _<_}
+use native.Mathlib.Omega.{arith}
+use borrow.Author.Needs.{needs}
+use Rattle.geometry.specs.Bounds.{inBounds}
+use Rattle.model.specs.Memory.{rectAt}
+use Rattle.memory.specs.Rows.{HasPlace, HasRect}
+use Rattle.tree.specs.Chains.{standing-here}
+use Rattle.tree_insert.specs.Counting.{one-most, Tallying, tally-on, tally-over}
+use Rattle.tree_insert.proofs.needed.count_within.Statement.{statement}
+use Rattle.tree_insert.proofs.needed.count_within.Tie as tie
+
+abbrev Inv-loop : tie.InvT-loop
+Inv-loop dots rects bounds at₀ left₀ count₀ at left count = (count + left ≤ left₀) × Tallying dots rects bounds at₀ left₀ at left count
+
+abbrev μ-loop : tie.MeasureT-loop
+μ-loop dots rects bounds at₀ left₀ count₀ at left count = left
+
+here : (c : tie.In-loop Inv-loop μ-loop) → HasPlace (c .before .before .before .args .dots .now) (c .before .loop .at) × HasRect (c .before .before .before .args .rects .now) (c .before .loop .at)
+here c =
+    let t = c .before .loop .inv .1 (c .before .before .before .pre .chain) (c .before .before .before .pre .standing) in
+    standing-here (c .before .before .before .args .dots .now) (c .before .before .before .args .rects .now) (c .before .loop .at) (c .before .loop .left) (t .0) (t .1) (c .loop-test .taken)
+
+-- where the branches meet
+counted : (c : tie.Joined1 Inv-loop μ-loop) → c .if1 .count ≡ c .before .before .before .before .loop .count + cond (inBounds (c .before .before .before .before .before .before .args .bounds) (rectAt (c .before .before .before .before .before .before .args .rects .now) (c .before .before .before .before .loop .at))) 1 0
+counted c =
+    let told = c .before .holds .ensures ∙ ap (inBounds (c .before .before .before .before .before .before .args .bounds)) (c .before .before .rect-at .ensures) in
+    let n = c .before .before .before .before .loop .count in
+    ⊎-elim
+    (λ w. w .1 ∙ ap (λ (b : Bool). n + cond b 1 0) (sym (sym told ∙ w .0 .taken)))
+    (λ w. w .1 ∙ omega arith ∙ ap (λ (b : Bool). n + cond b 1 0) (sym (sym told ∙ w .0 .left)))
+    (c .if1 .came)
+
+loop-holds : tie.Need-loop-holds Inv-loop μ-loop
+loop-holds c = (omega arith, λ chain s. (chain, s, omega arith))
+
+cast-place : tie.Need-cast-place Inv-loop μ-loop
+cast-place c = omega (arith, here c .0)
+
+rect-at-requires : tie.Need-rect-at-requires Inv-loop μ-loop
+rect-at-requires c κs = here c .1
+
+holds-requires : tie.Need-holds-requires Inv-loop μ-loop
+holds-requires c κs = search needs
+
+add-count : tie.Need-add-count Inv-loop μ-loop
+add-count c = let f : c .before .before .before .before .before .before .args .chain .count < 4294967296 = search needs in omega (arith, c .before .before .before .before .loop .inv .0, c .before .before .before .loop-test .taken)
+
+next-at-requires : tie.Need-next-at-requires Inv-loop μ-loop
+next-at-requires c κs = here (c .before .before .before) .0
+
+sub-left : tie.Need-sub-left Inv-loop μ-loop
+sub-left c = omega (arith, c .before .before .before .before .loop-test .taken)
+
+loop-less : tie.Need-loop-less Inv-loop μ-loop
+loop-less c = omega (arith, c .before .before .before .before .loop-test .taken)
+
+loop-again : tie.Need-loop-again Inv-loop μ-loop
+loop-again c = (
+  omega (arith, counted (c .before), one-most (inBounds (c .before .before .before .before .before .before .before .args .bounds) (rectAt (c .before .before .before .before .before .before .before .args .rects .now) (c .before .before .before .before .before .loop .at))), c .before .before .before .before .before .loop .inv .0, c .before .before .before .before .loop-test .taken),
+  tally-on (c .before .before .before .before .before .before .before .args .dots .now) (c .before .before .before .before .before .before .before .args .rects .now) (c .before .before .before .before .before .before .before .args .bounds) (c .before .before .before .before .before .before .before .args .chain .first) (c .before .before .before .before .before .before .before .args .chain .count) (c .before .before .before .before .before .loop .at) (c .before .before .before .before .before .loop .left) (c .before .before .before .before .before .loop .count) (c .next-at .result) (c .before .if1 .count) (c .before .before .before .before .before .loop .inv .1) (c .before .before .before .before .loop-test .taken) (c .next-at .ensures) (counted (c .before)),
+)
+
+returns : tie.Need-returns Inv-loop μ-loop
+returns c = tally-over (c .before .before .before .args .dots .now) (c .before .before .before .args .rects .now) (c .before .before .before .args .bounds) (c .before .before .before .args .chain .first) (c .before .before .before .args .chain .count) (c .before .loop .at) (c .before .loop .left) (c .before .loop .count) (c .before .loop .inv .1) (omega (arith, c .loop-test .left))
+
+pub count-within-spec : {M : Type 1} → statement M
+count-within-spec =
+    tie.close
+    (tie.spec
+    Inv-loop
+    μ-loop
+    loop-holds
+    cast-place
+    rect-at-requires
+    holds-requires
+    add-count
+    next-at-requires
+    sub-left
+    loop-less
+    loop-again
+    returns)

@@ -1,0 +1,16 @@
+-- The test of may split, and that of the count.
+use mathlib.Core.Path.{ap}
+use mathlib.Core.Bool.{Bool, _&&_}
+use lib.Dec.{leb}
+use borrow.Author.Needs.{needs}
+use Rattle.tree_insert.proofs.needed.must_split.Statement.{statement}
+use Rattle.tree_insert.proofs.needed.must_split.Tie as tie
+
+can-split-further-requires : tie.Need-can-split-further-requires
+can-split-further-requires c κs = search needs
+
+returns : tie.Need-returns
+returns c = ap (λ (b : Bool). b && leb (c .before .before .args .settings .«leaf_limit») (c .before .before .args .count)) (c .before .can-split-further .ensures)
+
+pub must-split-spec : {M : Type 1} → statement M
+must-split-spec = tie.close (tie.spec can-split-further-requires returns)

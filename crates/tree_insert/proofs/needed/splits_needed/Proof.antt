@@ -1,0 +1,92 @@
+-- A loop whose invariant is that the splits counted and those of the leaf reached are the splits of the whole; a node's depth bounds its turns.
+use mathlib.Core.Path.{_≡_, sym, _∙_, subst}
+use mathlib.Core.Bool.{true, false, _&&_}
+use Prim.Native.Nat.{_+_, _≤_, _<_}
+use native.Mathlib.Omega.{arith}
+use lib.Dec.{leb}
+use borrow.Author.Needs.{needs}
+use Rattle.geometry.specs.declared.node_data.NodeData.{NodeData}
+use Rattle.geometry.specs.Cells.{InRange, childData, maySplit}
+use Rattle.geometry.specs.Laws.Ranges.{child-range}
+use Rattle.tree.specs.Routes.{stepsLeft, steps-most, steps-fall}
+use Rattle.tree_insert.specs.Counting.{CountedAll, need-start, need-above, need-on, need-done}
+use Rattle.tree_insert.proofs.needed.splits_needed.Statement.{statement}
+use Rattle.tree_insert.proofs.needed.splits_needed.Tie as tie
+
+abbrev Inv-loop : tie.InvT-loop
+Inv-loop settings dots rects chain rect reached₀ bounds₀ count₀ splits₀ reached bounds count splits =
+    InRange (reached .cell) × (splits + stepsLeft reached ≤ stepsLeft reached₀) × CountedAll settings dots rects chain reached₀ rect reached bounds count splits
+
+abbrev μ-loop : tie.MeasureT-loop
+μ-loop settings dots rects chain rect reached₀ bounds₀ count₀ splits₀ reached bounds count splits = stepsLeft reached
+
+-- the leaf reached is full and may split
+full : (c : tie.Then1 Inv-loop μ-loop) → maySplit (c .before .before .before .before .before .args .settings) (c .before .before .loop .reached) && leb (c .before .before .before .before .before .args .settings .«leaf_limit») (c .before .before .loop .count) ≡ true
+full c = sym (c .before .must-split .ensures) ∙ c .if1 .taken
+
+above : (c : tie.Then1 Inv-loop μ-loop) → (c .before .before .loop .reached .«is_child_0» ≡ false) × (c .before .before .loop .reached .depth < 255)
+above c =
+    need-above (c .before .before .before .before .before .args .settings) (c .before .before .before .before .before .args .dots .now) (c .before .before .before .before .before .args .rects .now) (c .before .before .before .before .before .args .chain) (c .before .before .before .before .before .args .node-data) (c .before .before .before .before .before .args .rect) (c .before .before .loop .reached) (c .before .before .loop .bounds) (c .before .before .loop .count) (c .before .before .loop .splits)
+    (c .before .before .loop .inv .2) (c .before .before .before .before .before .pre .settings) (full c)
+
+falls : (c : tie.After-child Inv-loop μ-loop) → stepsLeft (c .child .result) < stepsLeft (c .before .before .before .before .before .before .loop .reached)
+falls c =
+    let a = above (c .before .before .before .before) in
+    subst (λ (n : NodeData). stepsLeft n < stepsLeft (c .before .before .before .before .before .before .loop .reached)) (sym (c .child .ensures)) (steps-fall (c .before .before .before .before .before .before .loop .reached) (c .before .before .route .result) (a .0) (a .1))
+
+all-requires : tie.Need-all-requires Inv-loop μ-loop
+all-requires c κs = search needs
+
+loop-holds : tie.Need-loop-holds Inv-loop μ-loop
+loop-holds c = (c .before .before .pre .range, omega arith, need-start (c .before .before .args .settings) (c .before .before .args .dots .now) (c .before .before .args .rects .now) (c .before .before .args .chain) (c .before .before .args .node-data) (c .before .before .args .rect) (c .all .result) (c .all .ensures))
+
+must-split-requires : tie.Need-must-split-requires Inv-loop μ-loop
+must-split-requires c κs = search needs
+
+route-requires : tie.Need-route-requires Inv-loop μ-loop
+route-requires c κs = search needs
+
+below-requires : tie.Need-below-requires Inv-loop μ-loop
+below-requires c κs = search needs
+
+child-requires : tie.Need-child-requires Inv-loop μ-loop
+child-requires c κs = (c .before .before .before .before .before .loop .inv .0, omega (arith, above (c .before .before .before) .1))
+
+count-within-requires : tie.Need-count-within-requires Inv-loop μ-loop
+count-within-requires c κs = record { chain = c .before .before .before .before .before .before .before .before .before .pre .chain; standing = c .before .before .before .before .before .before .before .before .before .pre .standing }
+
+add-splits : tie.Need-add-splits Inv-loop μ-loop
+add-splits c = omega (arith, c .before .before .before .before .before .before .before .loop .inv .1, steps-most (c .before .before .before .before .before .before .before .before .before .before .args .node-data))
+
+loop-less : tie.Need-loop-less Inv-loop μ-loop
+loop-less c = falls (c .before)
+
+loop-again : tie.Need-loop-again Inv-loop μ-loop
+unfolding childData
+loop-again c = (
+  subst (λ (n : NodeData). InRange (n .cell)) (sym (c .before .child .ensures)) (child-range _ _ (c .before .before .before .before .before .before .before .loop .inv .0)),
+  omega (arith, falls (c .before), c .before .before .before .before .before .before .before .loop .inv .1),
+  need-on (c .before .before .before .before .before .before .before .before .before .before .args .settings) (c .before .before .before .before .before .before .before .before .before .before .args .dots .now) (c .before .before .before .before .before .before .before .before .before .before .args .rects .now) (c .before .before .before .before .before .before .before .before .before .before .args .chain) (c .before .before .before .before .before .before .before .before .before .before .args .node-data) (c .before .before .before .before .before .before .before .before .before .before .args .rect) (c .before .before .before .before .before .before .before .loop .reached) (c .before .before .before .before .before .before .before .loop .bounds) (c .before .before .before .before .before .before .before .loop .count) (c .before .before .before .before .before .before .before .loop .splits) (c .before .before .before .before .before .before .before .loop .inv .2) (c .before .before .before .before .before .before .before .before .before .before .pre .settings) (full (c .before .before .before .before .before))
+      (c .before .before .before .route .result) (c .before .child .result) (c .before .before .below .result) (c .count-within .result) (c .before .before .before .route .ensures) (c .before .child .ensures) (c .before .before .below .ensures) (c .count-within .ensures),
+)
+
+returns : tie.Need-returns Inv-loop μ-loop
+returns c = need-done (c .before .before .before .before .before .args .settings) (c .before .before .before .before .before .args .dots .now) (c .before .before .before .before .before .args .rects .now) (c .before .before .before .before .before .args .chain) (c .before .before .before .before .before .args .node-data) (c .before .before .before .before .before .args .rect) (c .before .before .loop .reached) (c .before .before .loop .bounds) (c .before .before .loop .count) (c .before .before .loop .splits) (c .before .before .loop .inv .2) (c .before .before .before .before .before .pre .settings) (sym (c .before .must-split .ensures) ∙ c .if1 .left)
+
+pub splits-needed-spec : {M : Type 1} → statement M
+splits-needed-spec =
+    tie.close
+    (tie.spec
+    Inv-loop
+    μ-loop
+    all-requires
+    loop-holds
+    must-split-requires
+    route-requires
+    below-requires
+    child-requires
+    count-within-requires
+    add-splits
+    loop-less
+    loop-again
+    returns)

@@ -1,0 +1,101 @@
+-- A loop whose invariant is that the insert is on its way; the splits left are counted.
+use mathlib.Core.Path.{_≡_, refl, ap, sym, _∙_, subst}
+use Prim.Native.Nat.{ℕ, _-_, _<_}
+use native.Mathlib.Omega.{arith}
+use borrow.Author.Needs.{needs}
+use lib.ListN.{length}
+use Rattle.geometry.specs.Cells.{routeCell}
+use Rattle.geometry.specs.Laws.Geometry.{route-child}
+use Rattle.tree_insert.specs.Splitting.{Splittable}
+use Rattle.tree_insert.specs.Growing.{Going, Goes, go-splits, go-depth, go-on}
+use Rattle.tree_insert.proofs.split.split_down.Statement.{statement}
+use Rattle.tree_insert.proofs.split.split_down.Tie as tie
+
+abbrev Inv-loop : tie.InvT-loop
+Inv-loop nodes₀ dots₀ rects group splits rect node₀ node-data₀ head₀ left₀ nodes dots node node-data head left =
+    (length nodes ≡ length nodes₀) × (length dots ≡ length dots₀) × Goes rect rects nodes₀ dots₀ head₀ node₀ node-data₀ left₀ nodes dots head node node-data left
+
+abbrev μ-loop : tie.MeasureT-loop
+μ-loop nodes₀ dots₀ rects group splits rect node₀ node-data₀ head₀ left₀ nodes dots node node-data head left = left
+
+-- the insert that the function was called for
+going : (c : tie.In-loop Inv-loop μ-loop)
+    → Going (c .before .before .before .before .before .pre .shape) (c .before .before .before .before .before .pre .dot) (c .before .before .before .before .before .pre .placeHead) (c .before .loop .nodes) (c .before .loop .dots) (c .before .before .before .before .before .args .rects .now) (c .before .loop .head) (c .before .loop .node) (c .before .loop .node-data) (c .before .loop .left)
+going c = c .before .loop .inv .2 (c .before .before .before .before .before .pre .shape) (c .before .before .before .before .before .pre .dot) (c .before .before .before .before .before .pre .placeHead) (c .before .before .before .before .before .pre .rect) (c .before .before .before .before .before .pre .going)
+
+here : (c : tie.In-loop Inv-loop μ-loop) → Splittable (c .before .loop .nodes) (c .before .loop .dots) (c .before .before .before .before .before .args .rects .now) (c .before .loop .node) (c .before .loop .head)
+here c =
+    go-splits (c .before .before .before .before .before .pre .shape) (c .before .before .before .before .before .pre .dot) (c .before .before .before .before .before .pre .placeHead) (c .before .loop .nodes) (c .before .loop .dots) (c .before .before .before .before .before .args .rects .now) (c .before .loop .head) (c .before .loop .node) (c .before .loop .node-data) (c .before .loop .left)
+    (going c) (c .loop-test .taken)
+
+child5 : (c : tie.After-route Inv-loop μ-loop) → c .route .result < 5
+child5 c = omega (arith, c .route .ensures, route-child (c .before .before .before .before .before .before .before .before .before .before .loop .node-data) (c .before .before .before .before .before .before .before .before .before .before .before .before .before .before .args .rect))
+
+loop-holds : tie.Need-loop-holds Inv-loop μ-loop
+loop-holds c = (refl, refl, λ x dot placeHead e g. g)
+
+split-leaf-requires : tie.Need-split-leaf-requires Inv-loop μ-loop
+split-leaf-requires c κs = here (c .before .before .before)
+
+route-requires : tie.Need-route-requires Inv-loop μ-loop
+route-requires c κs = search needs
+
+cast-node : tie.Need-cast-node Inv-loop μ-loop
+cast-node c = omega (arith, here (c .before .before .before .before .before .before .before .before .before) .nodesIn, c .before .before .before .before .before .before .before .before .before .before .loop .inv .0)
+
+cast-node-2 : tie.Need-cast-node-2 Inv-loop μ-loop
+cast-node-2 c = omega (arith, child5 c)
+
+add-node : tie.Need-add-node Inv-loop μ-loop
+add-node c = omega (arith, here (c .before .before .before .before .before .before .before .before .before) .nodesIn, child5 c)
+
+child-requires : tie.Need-child-requires Inv-loop μ-loop
+child-requires c κs = let g = going (c .before .before .before .before .before .before .before .before .before) in
+    (g .range, omega (arith, go-depth (c .before .before .before .before .before .before .before .before .before .before .before .before .before .before .pre .shape) (c .before .before .before .before .before .before .before .before .before .before .before .before .before .before .pre .dot) (c .before .before .before .before .before .before .before .before .before .before .before .before .before .before .pre .placeHead) (c .before .before .before .before .before .before .before .before .before .before .loop .nodes) (c .before .before .before .before .before .before .before .before .before .before .loop .dots) (c .before .before .before .before .before .before .before .before .before .before .before .before .before .before .args .rects .now) (c .before .before .before .before .before .before .before .before .before .before .loop .head) (c .before .before .before .before .before .before .before .before .before .before .loop .node) (c .before .before .before .before .before .before .before .before .before .before .loop .node-data) (c .before .before .before .before .before .before .before .before .before .before .loop .left) g (c .before .before .before .before .before .before .before .before .before .loop-test .taken)))
+
+sub-left : tie.Need-sub-left Inv-loop μ-loop
+sub-left c = omega (arith, c .before .before .before .before .before .before .before .before .before .before .loop-test .taken)
+
+loop-less : tie.Need-loop-less Inv-loop μ-loop
+loop-less c = omega (arith, c .before .before .before .before .before .before .before .before .before .before .loop-test .taken)
+
+loop-again : tie.Need-loop-again Inv-loop μ-loop
+loop-again c = let k = c .before .before .before .before .before .before .split-leaf .kept in (
+  k .0 ∙ c .before .before .before .before .before .before .before .before .before .before .before .loop .inv .0,
+  k .1 .0 ∙ c .before .before .before .before .before .before .before .before .before .before .before .loop .inv .1,
+  λ x dot placeHead e g.
+      let now = c .before .before .before .before .before .before .before .before .before .before .before .loop .inv .2 x dot placeHead e g in
+      go-on x dot placeHead (c .before .before .before .before .before .before .before .before .before .before .before .loop .nodes) (c .before .before .before .before .before .before .before .before .before .before .before .loop .dots) (c .before .before .before .before .before .before .before .before .before .before .before .before .before .before .before .args .rects .now) (c .before .before .before .before .before .before .before .before .before .before .before .loop .head) (c .before .before .before .before .before .before .before .before .before .before .before .loop .node) (c .before .before .before .before .before .before .before .before .before .before .before .loop .node-data) (c .before .before .before .before .before .before .before .before .before .before .before .loop .left) now (c .before .before .before .before .before .before .before .before .before .before .loop-test .taken)
+      (c .before .before .before .before .before .before .split-leaf .last .0) (c .before .before .before .before .before .before .split-leaf .last .1 .0) (c .before .before .before .before .before .before .split-leaf .result) (c .before .route .result) (c .child .result) (k .0) (k .1 .0)
+      (c .before .before .before .before .before .before .split-leaf .ensures .1 (c .before .before .before .before .before .before .before .before .before .before .before .loop .node-data) refl (go-splits x dot placeHead (c .before .before .before .before .before .before .before .before .before .before .before .loop .nodes) (c .before .before .before .before .before .before .before .before .before .before .before .loop .dots) (c .before .before .before .before .before .before .before .before .before .before .before .before .before .before .before .args .rects .now) (c .before .before .before .before .before .before .before .before .before .before .before .loop .head) (c .before .before .before .before .before .before .before .before .before .before .before .loop .node) (c .before .before .before .before .before .before .before .before .before .before .before .loop .node-data) (c .before .before .before .before .before .before .before .before .before .before .before .loop .left) now (c .before .before .before .before .before .before .before .before .before .before .loop-test .taken)))
+      (c .before .before .before .before .before .before .split-leaf .ensures .0) (c .before .route .ensures ∙ ap (routeCell (c .before .before .before .before .before .before .before .before .before .before .before .loop .node-data .cell)) (sym e)) (c .child .ensures),
+)
+
+same-length : tie.Need-same-length Inv-loop μ-loop
+same-length c = c .before .loop .inv .0
+
+same-length-2 : tie.Need-same-length-2 Inv-loop μ-loop
+same-length-2 c = c .before .loop .inv .1
+
+returns : tie.Need-returns Inv-loop μ-loop
+returns c = (c .before .loop .node-data, λ x dot placeHead e g. subst (λ (k : ℕ). Going x dot placeHead (c .before .loop .nodes) (c .before .loop .dots) (c .before .before .before .before .before .args .rects .now) (c .before .loop .head) (c .before .loop .node) (c .before .loop .node-data) k) (omega (arith, c .loop-test .left)) (c .before .loop .inv .2 x dot placeHead e g))
+
+pub split-down-spec : {M : Type 1} → statement M
+split-down-spec =
+    tie.close
+    (tie.spec
+    Inv-loop
+    μ-loop
+    loop-holds
+    split-leaf-requires
+    route-requires
+    cast-node
+    cast-node-2
+    add-node
+    child-requires
+    sub-left
+    loop-less
+    loop-again
+    same-length
+    same-length-2
+    returns)

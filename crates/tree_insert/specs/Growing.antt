@@ -1,0 +1,187 @@
+-- The insert's loop in the rows: splits on the way down, then the push.
+--     Going        an insert is on its way: a leaf of a stored tree, the splits left, and what the insert ends with
+--     go-splits, go-on     what a split asks, and where the insert is after it
+--     Pushed, go-push      the end: the dot is pushed, and the memory is stored as the insert says
+use mathlib.Core.Path.{_≡_, refl, ap, sym, _∙_, subst}
+use mathlib.Core.List.{List, [], _∷_, _++_}
+use mathlib.Core.Bool.{true}
+use Prim.Native.Nat.{ℕ, zero, suc, _+_, _-_, _*_, _≤_, _<_}
+use native.Mathlib.Omega.{arith}
+use lib.IntN.{ℤ}
+use lib.ListN.{length}
+use Rattle.arithmetic.specs.Tests.{byBool}
+use Rattle.geometry.specs.declared.settings.Settings.{Settings}
+use Rattle.geometry.specs.declared.node_data.NodeData.{NodeData}
+use Rattle.geometry.specs.declared.aabb.AABB.{AABB}
+use Rattle.geometry.specs.Settings.{inRange}
+use Rattle.geometry.specs.Cells.{InRange, childData, route, maySplit}
+use Rattle.geometry.specs.Laws.Geometry.{route-child, may-splits}
+use Rattle.geometry.specs.Laws.Ranges.{accepted, child-range}
+use Rattle.model.specs.declared.Dot.{Dot}
+use Rattle.model.specs.Sums.{sumOver, sumOver-one, sumBelow-term}
+use Rattle.model.specs.Trees.{Placed, Tree, leaf, childNode}
+use Rattle.model.specs.Insert.{Grown, deal, dealt, mustSplit}
+use Rattle.model.specs.Shapes.{Shape, placedIn, grownBy}
+use Rattle.model.specs.Memory.{Mem, firstAt}
+use Rattle.model.specs.Laws.Insert.{splitCount, deal-sum}
+use Rattle.tree.specs.declared.find.Leaf.{Leaf}
+use Rattle.tree_insert.specs.declared.split.Reached.{Reached}
+use Rattle.tree.specs.Paths.{Children, sub, put}
+use Rattle.tree.specs.Paths as paths
+use Rattle.tree.specs.Stores.{Stored}
+use Rattle.tree.specs.Splits.{splitTree, splitWords, split-holds}
+use Rattle.tree.specs.Inserts.{Reach, reach-children, sub-put, reach-put, sub-snoc, node-snoc, reach-snoc, Ended, Left, turn-down, turn-split}
+use Rattle.tree.specs.Readings.{read}
+use Rattle.tree_insert.specs.Splitting.{Splittable, stored-splittable}
+
+-- the tree and the free groups that an insert leaves
+abbrev pub ended : Grown → Ended
+ended g = record { tree = g .tree; free = g .free }
+
+pub record Going (x : Shape) (dot : Dot) (placeHead : ℕ) (nodes dots : List ℕ) (rects : List ℤ) (groupHead node : ℕ) (n : NodeData) (left : ℕ) : Type 0 where
+  pub tree : Tree
+  pub path : List ℕ
+  pub free : List ℕ
+  pub chain : List Placed
+  pub levels : ℕ
+  pub settings : inRange (x .settings) ≡ true
+  pub nodesFit : length nodes ≡ 2 + 10 * x .groups
+  pub dotsFit : length dots ≡ 2 * x .places
+  pub rectsFit : length rects ≡ 4 * x .places
+  pub reach : Reach tree path
+  pub here : sub tree path ≡ leaf chain
+  pub at : paths.nodeAt 0 tree path ≡ node
+  pub stored : Stored (x .groups) (x .places) (read nodes dots rects) groupHead placeHead tree free (x .freePlaces)
+  pub rest : splitCount (x .settings) levels n (dot .rect) (leaf chain) ≡ left
+  pub enough : left ≤ length free
+  pub short : length chain ≤ 65536
+  pub range : InRange (n .cell)
+  pub ends : Left (x .settings) (placedIn dot x) levels n tree path free ≡ ended (grownBy dot x (x .freeGroups))
+
+-- the insert of every dot with this rectangle that was on its way in the one memory is on its way in the other
+abbrev pub Goes : AABB → List ℤ → List ℕ → List ℕ → ℕ → ℕ → NodeData → ℕ → List ℕ → List ℕ → ℕ → ℕ → NodeData → ℕ → Type 0
+Goes r rects nodes dots groupHead node n left nodes′ dots′ groupHead′ node′ n′ left′ =
+    (x : Shape) (dot : Dot) (placeHead : ℕ) → dot .rect ≡ r → Going x dot placeHead nodes dots rects groupHead node n left
+    → Going x dot placeHead nodes′ dots′ rects groupHead′ node′ n′ left′
+
+-- what the loop asks: an insert is on its way
+pub record CanGo (r : AABB) (nodes dots : List ℕ) (rects : List ℤ) (groupHead : ℕ) (l : Leaf) (left : ℕ) : Type 0 where
+  pub shape : Shape
+  pub dot : Dot
+  pub rect : dot .rect ≡ r
+  pub placeHead : ℕ
+  pub going : Going shape dot placeHead nodes dots rects groupHead (l .node) (l .«node_data») left
+
+-- what it leaves: it has made its splits
+abbrev pub Gone : AABB → List ℕ → List ℕ → List ℤ → ℕ → Leaf → ℕ → List ℕ → List ℕ → Reached → Type 0
+Gone r nodes dots rects groupHead l left nodes′ dots′ reached =
+    (n : NodeData) × Goes r rects nodes dots groupHead (l .node) (l .«node_data») left nodes′ dots′ (reached .group) (reached .node) n 0
+
+-- where a split is left, the leaf must split, and a level and a group are there for it
+pub record Must (s : Settings) (levels : ℕ) (n : NodeData) (r : AABB) (chain : List Placed) (free : List ℕ) (left : ℕ) : Type 0 where
+  pub below : ℕ
+  pub level : levels ≡ suc below
+  pub group : ℕ
+  pub others : List ℕ
+  pub taken : free ≡ group ∷ others
+  pub must : mustSplit s n chain ≡ true
+  pub next : splitCount s below (childData n (route n r)) r (dealt n chain (route n r)) ≡ left - 1
+
+must : (s : Settings) (levels : ℕ) (n : NodeData) (r : AABB) (chain : List Placed) (free : List ℕ) (left : ℕ) → splitCount s levels n r (leaf chain) ≡ left → 1 ≤ left → left ≤ length free
+    → Must s levels n r chain free left
+must s zero n r chain free left e some enough = absurd (omega arith)
+must s (suc below) n r chain [] left e some enough = absurd (omega arith)
+must s (suc below) n r chain (g ∷ free) left e some enough =
+    byBool (mustSplit s n chain)
+    (λ m. record { below = below; level = refl; group = g; others = free; taken = refl; must = m; next = omega (arith, rw m at e) })
+    (λ m. absurd (omega (arith, rw m at e)))
+
+must-may : (s : Settings) (n : NodeData) (chain : List Placed) → mustSplit s n chain ≡ true → maySplit s n ≡ true
+must-may s n chain e = byBool (maySplit s n) (λ m. m) (λ m. Rattle.arithmetic.specs.Tests.true-false (sym (rw m at e)))
+
+dealt-length : (n : NodeData) (chain : List Placed) (i : ℕ) → i < 5 → length (deal n (λ j. []) chain i) ≤ length chain
+dealt-length n chain i l =
+    omega (
+      arith,
+      sumOver-one (deal n (λ j. []) chain i),
+      sumOver-one chain,
+      deal-sum n (λ d. 1) (λ j. []) chain,
+      sumBelow-term 5 (λ j. sumOver (λ d. 1) (deal n (λ k. []) chain j)) i l,
+    )
+
+child-in : (n : NodeData) (i : ℕ) → InRange (n .cell) → InRange (childData n i .cell)
+unfolding childData
+child-in n i r = child-range (n .cell) i r
+
+module _ (x : Shape) (dot : Dot) (placeHead : ℕ) (nodes dots : List ℕ) (rects : List ℤ) (groupHead node : ℕ) (n : NodeData) (left : ℕ)
+    (G : Going x dot placeHead nodes dots rects groupHead node n left) (some : 1 ≤ left) where
+  musts : Must (x .settings) (G .levels) n (dot .rect) (G .chain) (G .free) left
+  musts = must (x .settings) (G .levels) n (dot .rect) (G .chain) (G .free) left (G .rest) some (G .enough)
+
+  stored-group : Stored (x .groups) (x .places) (read nodes dots rects) groupHead placeHead (G .tree) (musts .group ∷ musts .others) (x .freePlaces)
+  stored-group = subst (λ (f : List ℕ). Stored (x .groups) (x .places) (read nodes dots rects) groupHead placeHead (G .tree) f (x .freePlaces)) (musts .taken) (G .stored)
+
+  at-children : Children (G .path)
+  at-children = reach-children (G .tree) (G .path) (G .reach)
+
+  splits : (s : Splittable nodes dots rects node groupHead) × (s .group ≡ musts .group) × (s .chain ≡ G .chain)
+  splits =
+      subst (λ (b : ℕ). (s : Splittable nodes dots rects b groupHead) × (s .group ≡ musts .group) × (s .chain ≡ G .chain)) (G .at)
+      (stored-splittable (x .groups) (x .places) nodes dots rects groupHead placeHead (G .tree) (musts .group) (musts .others) (x .freePlaces) stored-group (G .nodesFit) (G .dotsFit) (G .rectsFit)
+      (G .path) (G .chain) at-children (G .here) (G .short))
+
+  pub go-splits : Splittable nodes dots rects node groupHead
+  go-splits = splits .0
+
+  pub go-depth : n .depth < 255
+  go-depth = omega (arith, may-splits (x .settings) n (must-may (x .settings) n (G .chain) (musts .must)) .above, accepted (x .settings) (G .settings) .depth)
+
+  -- after the split, at the child
+  pub go-on : (nodes′ dots′ : List ℕ) (next child : ℕ) (n′ : NodeData) → length nodes′ ≡ length nodes → length dots′ ≡ length dots
+      → read nodes′ dots′ rects ≡ splitWords n (read nodes dots rects) node (go-splits .group) (go-splits .chain) → next ≡ firstAt nodes groupHead → child ≡ route n (dot .rect) → n′ ≡ childData n child
+      → Going x dot placeHead nodes′ dots′ rects next (groupHead + child) n′ (left - 1)
+  unfolding go-splits
+  go-on nodes′ dots′ next child n′ ln ld words en ec e′ =
+      let S = x .settings in
+      let d = placedIn dot x in
+      let g = musts .group in
+      let fs = musts .others in
+      let t = G .tree in
+      let p = G .path in
+      let ds = G .chain in
+      let i = route n (dot .rect) in
+      let u = splitTree n g ds in
+      let t₁ = put t p u in
+      let r₁ = reach-put u t p (G .reach) in
+      let e₁ : sub t₁ p ≡ u = sub-put u t p (G .reach) in
+      let known : childData n i ≡ n′ = ap (childData n) (sym ec) ∙ sym e′ in
+      let head : groupHead ≡ childNode g 0 = stored-group .groups .0 in
+      let same : splitWords n (read nodes dots rects) (paths.nodeAt 0 t p) g ds ≡ read nodes′ dots′ rects =
+      (λ k. splitWords n (read nodes dots rects) (G .at k) (sym (splits .1) k) (sym (splits .2) k)) ∙ sym words in
+      let first : firstAt nodes (childNode g 0) ≡ next = ap (firstAt nodes) (sym head) ∙ sym en in
+      record {
+        tree = t₁;
+        path = p ++ i ∷ [];
+        free = fs;
+        chain = deal n (λ j. []) ds i;
+        levels = musts .below;
+        settings = G .settings;
+        nodesFit = ln ∙ G .nodesFit;
+        dotsFit = ld ∙ G .dotsFit;
+        rectsFit = G .rectsFit;
+        reach = reach-snoc g (dealt n ds) i t₁ p (route-child n (dot .rect)) r₁ e₁;
+        here = sub-snoc g (dealt n ds) i t₁ p r₁ e₁;
+        at = node-snoc g (dealt n ds) i 0 t₁ p r₁ e₁ ∙ omega arith;
+        stored =
+            subst (λ (m : Mem). Stored (x .groups) (x .places) m next placeHead t₁ fs (x .freePlaces)) same
+            (subst (λ (h : ℕ). Stored (x .groups) (x .places) (splitWords n (read nodes dots rects) (paths.nodeAt 0 t p) g ds) h placeHead t₁ fs (x .freePlaces)) first
+            (split-holds n (x .groups) (x .places) (read nodes dots rects) groupHead placeHead t g fs (x .freePlaces) p ds at-children (G .here) stored-group));
+        rest = ap (λ (y : NodeData). splitCount S (musts .below) y (dot .rect) (dealt n ds i)) (sym known) ∙ musts .next;
+        enough = omega (arith, G .enough, ap length (musts .taken));
+        short = omega (arith, dealt-length n ds i (route-child n (dot .rect)), G .short);
+        range = subst (λ (y : NodeData). InRange (y .cell)) known (child-in n i (G .range));
+        ends =
+            ap (λ (y : NodeData). Left S d (musts .below) y t₁ (p ++ i ∷ []) fs) (sym known)
+            ∙ sym (turn-split S d (musts .below) n t p g fs ds (G .reach) (G .here) (musts .must) ∙ turn-down S d (musts .below) n t₁ p fs g (dealt n ds) r₁ e₁)
+            ∙ (λ k. Left S d (sym (musts .level) k) n t p (sym (musts .taken) k)) ∙ G .ends;
+      }

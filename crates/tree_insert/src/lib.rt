@@ -1,0 +1,107 @@
+// Insert without the check: the dot goes to the leaf that it routes to, which splits where it is full and may.
+ghost use mathlib.Core.Path.{_≡_};
+ghost use mathlib.Core.List.{List};
+ghost use Prim.Native.Nat.{ℕ, _+_};
+ghost use Rattle.model.specs.Shapes.{Shape, inserted};
+ghost use Rattle.model.specs.Layout.{world, Holds};
+ghost use Rattle.model.specs.Calls.{insertRule};
+ghost use lib.ListN.{length, replicate};
+ghost use Rattle.tree.specs.Operations.{IsTree, CarriedOut};
+ghost use Rattle.tree_insert.specs.Answers.{insertedState, insertedReply};
+ghost use Rattle.tree_insert.specs.Landings.{Lands, Starts, CanInsert, pushedNodes, pushedDots, pushedRects};
+
+pub mod needed;
+pub mod split;
+
+use crate::needed::has_free;
+use crate::needed::splits_needed;
+use crate::split::push_place;
+use crate::split::split_down;
+use memory::words::next_at;
+use memory::words::node_at;
+use memory::words::set_dot;
+use model::Dot;
+use model::State;
+use tree::find::Leaf;
+use tree::find::find_leaf;
+
+// Refused, with document 01's number; or done, with the splits and the state after it.
+pub enum Inserted {
+    Refused(u32),
+    Done(u32, State),
+}
+
+// Puts a dot at a place, and the place at the head of a leaf's chain.
+fn push_dot(
+    nodes: &mut [u32],
+    dots: &mut [u32],
+    rects: &mut [i32],
+    node: usize,
+    place: u32,
+    dot: Dot,
+)
+    requires { ⌜ Lands (now nodes) (now dots) (now rects) node place ⌝ }
+    ensures { λ _. ⌜ (now (nodes .exit) ≡ pushedNodes (now (nodes .entry)) node place) × (now (dots .exit) ≡ pushedDots (now (nodes .entry)) (now (dots .entry)) node place dot) × (now (rects .exit) ≡ pushedRects (now (rects .entry)) place dot) ⌝ }
+{
+    set_dot(dots, rects, place as usize, dot);
+    push_place(nodes, dots, node, place);
+}
+
+// Inserts a dot at the leaf that it routes to, with the splits that it needs; the state after it.
+fn insert_at(
+    state: State,
+    dot: Dot,
+    leaf: Leaf,
+    splits: u32,
+    nodes: &mut [u32],
+    dots: &mut [u32],
+    rects: &mut [i32],
+) -> State
+    requires { ⌜ CanInsert state dot (now nodes) (now dots) (now rects) leaf splits ⌝ }
+    ensures { λ r. ⌜ ((marks : List ℕ) (x : Shape) → Starts state dot (now (nodes .entry)) (now (dots .entry)) (now (rects .entry)) leaf splits marks x → Holds (world r (now (nodes .exit)) (now (dots .exit)) (now (rects .exit)) (replicate (length marks) 0)) (inserted dot x)) ⌝ }
+{
+    let settings = state.settings;
+    let place = state.free_place;
+    let reached = split_down(nodes, dots, rects, leaf, state.free_group, splits, dot.rect);
+    let next = next_at(dots, place as usize);
+    push_dot(nodes, dots, rects, reached.node, place, dot);
+    State {
+        settings,
+        free_group: reached.group,
+        free_place: next,
+        live: state.live + 1,
+    }
+}
+
+pub fn insert_dot(
+    state: State,
+    dot: Dot,
+    nodes: &mut [u32],
+    dots: &mut [u32],
+    rects: &mut [i32],
+) -> Inserted
+    requires { ⌜ IsTree state (now nodes) (now dots) (now rects) ⌝ }
+    ensures { λ r. ⌜ CarriedOut (insertRule dot) state (now (nodes .entry)) (now (dots .entry)) (now (rects .entry)) (insertedState state r) (now (nodes .exit)) (now (dots .exit)) (now (rects .exit)) (insertedReply r) ⌝ }
+{
+    let settings = state.settings;
+    let rect = dot.rect;
+    if rect.is_inverted() | rect.is_far_out() {
+        return Inserted::Refused(4);
+    }
+    if !settings.root().contains(rect) {
+        return Inserted::Refused(5);
+    }
+    if state.live as usize == dots.len() / 2 {
+        return Inserted::Refused(6);
+    }
+    let leaf = find_leaf(settings, nodes, rect);
+    let chain = node_at(nodes, leaf.node);
+    let splits = splits_needed(settings, dots, rects, chain, leaf.node_data, rect);
+    if !has_free(nodes, state.free_group, splits) {
+        return Inserted::Refused(7);
+    }
+    Inserted::Done(
+        splits,
+        insert_at(state, dot, leaf, splits, nodes, dots, rects),
+    )
+}

@@ -1,0 +1,132 @@
+// Remove without the check: the first dot with an id in the leaf that a rectangle routes to goes, and its place is free.
+ghost use mathlib.Core.Path.{_≡_};
+ghost use mathlib.Core.List.{List};
+ghost use Prim.Native.Nat.{_≤_};
+ghost use Rattle.model.specs.Dots.{zeroDot};
+ghost use Rattle.model.specs.Layout.{none};
+ghost use Rattle.model.specs.Trees.{Placed};
+ghost use Rattle.model.specs.Calls.{removeRule};
+ghost use Rattle.memory.specs.Rows.{HasNode, HasPlace, HasRect, setNodeAt, setNextAt, setIdAt, setRectAt};
+ghost use Rattle.tree.specs.Operations.{IsTree, CarriedOut};
+ghost use Rattle.tree_remove.specs.Search.{Searchable, hitIn, Linked, unlinkedNode, unlinkedDots};
+ghost use Rattle.tree_remove.specs.Answers.{removedState, removedReply};
+use geometry::aabb::AABB;
+use memory::node::Node;
+use memory::places::id_at;
+use memory::words::next_at;
+use memory::words::node_at;
+use memory::words::set_dot;
+use memory::words::set_next;
+use memory::words::set_node;
+use model::Dot;
+use model::State;
+use tree::find::find_leaf;
+
+// Yes, with the state after it; or no, and nothing is changed.
+pub enum Removed {
+    Yes(State),
+    No,
+}
+
+// Where a dot stands in its chain, and the place before it; no place is none.
+pub struct Hit {
+    pub place: u32,
+    pub previous: u32,
+}
+
+// The first dot with an id in a leaf's chain.
+fn find_dot(dots: &[u32], leaf: Node, id: u32) -> Hit
+    requires { ⌜ Searchable (now dots) leaf ⌝ }
+    ensures { λ r. ⌜ ((chain : List Placed) → Linked (now (dots .entry)) (leaf .first) (leaf .count) chain → r ≡ hitIn id none chain) ⌝ }
+{
+    let mut at = leaf.first;
+    let mut previous = Node::NONE;
+    let mut left = leaf.count;
+    let hit = loop {
+        if left == 0 {
+            break Hit {
+                place: Node::NONE,
+                previous,
+            };
+        }
+        let place = at as usize;
+        if id_at(dots, place) == id {
+            break Hit {
+                place: at,
+                previous,
+            };
+        }
+        previous = at;
+        at = next_at(dots, place);
+        left -= 1;
+    };
+    hit
+}
+
+// Takes the dot that was found out of its leaf's chain.
+fn unlink(nodes: &mut [u32], dots: &mut [u32], node: usize, leaf: Node, hit: Hit)
+    requires { ⌜ HasNode (now nodes) node × (1 ≤ leaf .count) × HasPlace (now dots) (hit .place) × (¬ (hit .previous ≡ none) → HasPlace (now dots) (hit .previous)) ⌝ }
+    ensures { λ _. ⌜ (now (nodes .exit) ≡ setNodeAt (now (nodes .entry)) node (unlinkedNode (now (dots .entry)) leaf hit)) × (now (dots .exit) ≡ unlinkedDots (now (dots .entry)) hit) ⌝ }
+{
+    let place = hit.place as usize;
+    let next = next_at(dots, place);
+    let count = leaf.count - 1;
+    if hit.previous == Node::NONE {
+        set_node(nodes, node, Node { first: next, count });
+        return;
+    }
+    let previous = hit.previous as usize;
+    set_next(dots, previous, next);
+    set_node(
+        nodes,
+        node,
+        Node {
+            first: leaf.first,
+            count,
+        },
+    );
+}
+
+// Frees a place: it heads the free places.
+fn free_place(dots: &mut [u32], rects: &mut [i32], place: usize, head: u32)
+    requires { ⌜ HasPlace (now dots) place × HasRect (now rects) place ⌝ }
+    ensures { λ _. ⌜ (now (dots .exit) ≡ setNextAt (setIdAt (now (dots .entry)) place (zeroDot .id)) place head) × (now (rects .exit) ≡ setRectAt (now (rects .entry)) place (zeroDot .rect)) ⌝ }
+{
+    let rect = AABB {
+        x1: 0,
+        y1: 0,
+        x2: 0,
+        y2: 0,
+    };
+    set_dot(dots, rects, place, Dot { id: 0, rect });
+    set_next(dots, place, head);
+}
+
+pub fn remove_dot(
+    state: State,
+    id: u32,
+    rect: AABB,
+    nodes: &mut [u32],
+    dots: &mut [u32],
+    rects: &mut [i32],
+) -> Removed
+    requires { ⌜ IsTree state (now nodes) (now dots) (now rects) ⌝ }
+    ensures { λ r. ⌜ CarriedOut (removeRule id rect) state (now (nodes .entry)) (now (dots .entry)) (now (rects .entry)) (removedState state r) (now (nodes .exit)) (now (dots .exit)) (now (rects .exit)) (removedReply r) ⌝ }
+{
+    let settings = state.settings;
+    let node = find_leaf(settings, nodes, rect).node;
+    let leaf = node_at(nodes, node);
+    let hit = find_dot(dots, leaf, id);
+    if hit.place == Node::NONE {
+        return Removed::No;
+    }
+    let place = hit.place;
+    unlink(nodes, dots, node, leaf, hit);
+    free_place(dots, rects, place as usize, state.free_place);
+    Removed::Yes(State {
+        settings,
+        free_group: state.free_group,
+        free_place: place,
+        live: state.live - 1,
+    })
+}
