@@ -17,7 +17,6 @@ use Rattle.tree_check.specs.Laws.Trees.{inLeaf, chain-ready, ready-again
 use Rattle.tree_check.specs.Laws.Groups.{no-children, child-bad, child-scanned}
 use Rattle.tree_check.specs.Laws.Checks.{tree-yes, tree-no}
 use borrow.Author.Needs.{needs}
-use Prim.Native.Nat.{ℕ, _<_}
 use borrow.Fn.Kinds.{In}
 use borrow.Fn.PlainCycle.{Measures, is, falls, and}
 use Rattle.tree_check.proofs.tree.check_group.Reads as check-group
