@@ -1,12 +1,11 @@
 -- Laws of a state as a row of words.
 --     signed-near, signed-far, far-wide, far-narrow    the number that a word stands for, and that it fits
 --     check-row, references-row, make-row      the calls on a row of ten words; check-other, references-other, make-other: on another row
-use mathlib.Core.Path.{_≡_, refl, sym, _∙_, subst}
+use mathlib.Core.Path.{_≡_, refl, subst}
 use mathlib.Core.List.{List, [], _∷_}
-use Prim.Native.Nat.{ℕ, _-_, _≤_, _<_}
+use Prim.Native.Nat.{ℕ, _≤_, _<_}
 use native.Mathlib.Omega.{arith}
-use lib.Dec.{ltb}
-use lib.IntN.{ℤ, pos, negsuc, _-ℤ_}
+use lib.IntN.{ℤ, pos, _-ℤ_}
 use lib.ListN.{length, set}
 use mir.Syntax.{w32, w64}
 use mir.Val.{SFits}

@@ -2,7 +2,7 @@
 // free group, free place, live; a negative number has 4294967296 added. Each call returns 0 or its refusal; a state row of another length is refusal 1.
 ghost use mathlib.Core.Path.{_≡_};
 ghost use Prim.Native.Nat.{_<_};
-ghost use lib.ListN.{length, getD};
+ghost use lib.ListN.{length};
 ghost use Rattle.calls_export.specs.Rows.{signed, settingsIn, stateIn, ExportedCheck, ExportedReferences, ExportedMake};
 use calls::references::Counted;
 use calls::references::references;
