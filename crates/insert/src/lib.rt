@@ -91,7 +91,8 @@ pub fn insert_dot(
     if !settings.root().contains(rect) {
         return Inserted::Refused(5);
     }
-    if state.live as usize == dots.len() / 2 {
+    let live = state.live as usize + 1;
+    if dots.len() / 2 < live {
         return Inserted::Refused(6);
     }
     let leaf = find_leaf(settings, nodes, rect);

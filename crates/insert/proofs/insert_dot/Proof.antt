@@ -3,6 +3,7 @@ use mathlib.Core.Path.{_≡_, ap, sym, _∙_}
 use mathlib.Core.Bool.{_||_}
 use mathlib.Core.List.{List}
 use Prim.Native.Nat.{ℕ}
+use native.Mathlib.Omega.{arith}
 use lib.Dec.{leb}
 use lib.ListN.{length}
 use borrow.Author.Tests.{not-false, not-true}
@@ -32,7 +33,7 @@ not5 : (c : tie.Else2) → Not5 (c .before .before .before .before .before .befo
 not5 c = record { near = not4 (c .before .before .before) .near; inside = test-5 (c .before) ∙ not-false _ (c .if2 .left) }
 
 not6 : (c : tie.Else3) → Not6 (c .before .before .before .before .before .before .before .before .before .before .before .before .args .state) (c .before .before .before .before .before .before .before .before .before .before .before .before .args .dots .now) (c .before .before .before .before .before .before .before .before .before .before .before .before .args .dot)
-not6 c = let p = not5 (c .before .before) in record { near = p .near; inside = p .inside; room = c .if3 .left }
+not6 c = let p = not5 (c .before .before) in record { near = p .near; inside = p .inside; room = omega (arith, c .if3 .left) }
 
 -- for every shape that the words hold: what was counted, and what the walk along the free groups told
 module _ (c : tie.After-has-free) (marks : List ℕ) (x : Shape) (h : Holds (world (c .before .before .before .before .before .before .before .before .before .before .before .before .before .before .before .before .before .before .before .before .before .args .state) (c .before .before .before .before .before .before .before .before .before .before .before .before .before .before .before .before .before .before .before .before .before .args .nodes .now) (c .before .before .before .before .before .before .before .before .before .before .before .before .before .before .before .before .before .before .before .before .before .args .dots .now) (c .before .before .before .before .before .before .before .before .before .before .before .before .before .before .before .before .before .before .before .before .before .args .rects .now) marks) x) where
@@ -68,11 +69,14 @@ contains-requires c κs = search needs
 returns-2 : tie.Need-returns-2
 returns-2 c = λ marks x h. refuse-5 (c .before .before .before .before .before .before .before .before .before .before .args .state) (c .before .before .before .before .before .before .before .before .before .before .args .nodes .now) (c .before .before .before .before .before .before .before .before .before .before .args .dots .now) (c .before .before .before .before .before .before .before .before .before .before .args .rects .now) (c .before .before .before .before .before .before .before .before .before .before .args .dot) marks x h (not4 (c .before .before .before)) (test-5 (c .before) ∙ not-true _ (c .if2 .taken))
 
-cast-if3 : tie.Need-cast-if3
-cast-if3 c = search needs
+cast-live : tie.Need-cast-live
+cast-live c = search needs
+
+add-live : tie.Need-add-live
+add-live c = search needs
 
 returns-3 : tie.Need-returns-3
-returns-3 c = λ marks x h. refuse-6 (c .before .before .before .before .before .before .before .before .before .before .before .before .args .state) (c .before .before .before .before .before .before .before .before .before .before .before .before .args .nodes .now) (c .before .before .before .before .before .before .before .before .before .before .before .before .args .dots .now) (c .before .before .before .before .before .before .before .before .before .before .before .before .args .rects .now) (c .before .before .before .before .before .before .before .before .before .before .before .before .args .dot) marks x h (not5 (c .before .before)) (c .if3 .taken)
+returns-3 c = λ marks x h. refuse-6 (c .before .before .before .before .before .before .before .before .before .before .before .before .args .state) (c .before .before .before .before .before .before .before .before .before .before .before .before .args .nodes .now) (c .before .before .before .before .before .before .before .before .before .before .before .before .args .dots .now) (c .before .before .before .before .before .before .before .before .before .before .before .before .args .rects .now) (c .before .before .before .before .before .before .before .before .before .before .before .before .args .dot) marks x h (not5 (c .before .before)) (omega (arith, c .if3 .taken))
 
 find-leaf-requires : tie.Need-find-leaf-requires
 find-leaf-requires c κs = holds-way _ _ (c .before .before .before .before .before .before .before .before .before .before .before .before .before .pre .holds)
@@ -125,7 +129,8 @@ insert-dot-spec =
     root-requires
     contains-requires
     returns-2
-    cast-if3
+    cast-live
+    add-live
     returns-3
     find-leaf-requires
     node-at-requires

@@ -1,7 +1,7 @@
 -- A loop whose invariant is that dealing what is left is dealing the whole; the places left are counted.
 use mathlib.Core.Path.{_≡_, refl, ap, sym, _∙_, subst}
 use mathlib.Core.Bool.{false}
-use Prim.Native.Nat.{ℕ, _-_}
+use Prim.Native.Nat.{ℕ, _-_, _≤_}
 use native.Mathlib.Omega.{arith}
 use borrow.Author.Needs.{needs}
 use lib.ListN.{length}
@@ -25,17 +25,21 @@ abbrev μ-loop : tie.MeasureT-loop
 abbrev node : CenteredAABB → NodeData
 node cell = record { cell = cell; depth = 0; «is_child_0» = false }
 
+-- a place is left
+some : (c : tie.In-loop Inv-loop μ-loop) → 1 ≤ c .before .loop .left
+some c = omega (arith, c .loop-test .taken)
+
 -- what a turn asks, of the child that the rectangle goes to
 asks : (c : tie.In-loop Inv-loop μ-loop)
-    → Turn (c .before .loop .nodes) (c .before .loop .dots) (c .before .before .before .before .args .rects .now) (node (c .before .before .before .before .args .cell)) (c .before .before .before .before .args .group) (c .before .loop .at) (c .before .loop .left) (c .loop-test .taken) (routeCell (c .before .before .before .before .args .cell) (rectAt (c .before .before .before .before .args .rects .now) (c .before .loop .at)))
+    → Turn (c .before .loop .nodes) (c .before .loop .dots) (c .before .before .before .before .args .rects .now) (node (c .before .before .before .before .args .cell)) (c .before .before .before .before .args .group) (c .before .loop .at) (c .before .loop .left) (some c) (routeCell (c .before .before .before .before .args .cell) (rectAt (c .before .before .before .before .args .rects .now) (c .before .loop .at)))
 asks c =
-    deal-asks (c .before .loop .nodes) (c .before .loop .dots) (c .before .before .before .before .args .rects .now) (node (c .before .before .before .before .args .cell)) (c .before .before .before .before .args .group) (c .before .loop .at) (c .before .loop .left) (c .loop-test .taken)
+    deal-asks (c .before .loop .nodes) (c .before .loop .dots) (c .before .before .before .before .args .rects .now) (node (c .before .before .before .before .args .cell)) (c .before .before .before .before .args .group) (c .before .loop .at) (c .before .loop .left) (some c)
     (c .before .loop .inv .2 (node (c .before .before .before .before .args .cell)) refl (c .before .before .before .before .pre) .0)
 
 asks-child : (c : tie.After-route Inv-loop μ-loop)
-    → Turn (c .before .before .before .before .before .loop .nodes) (c .before .before .before .before .before .loop .dots) (c .before .before .before .before .before .before .before .before .args .rects .now) (node (c .before .before .before .before .before .before .before .before .args .cell)) (c .before .before .before .before .before .before .before .before .args .group) (c .before .before .before .before .before .loop .at) (c .before .before .before .before .before .loop .left) (c .before .before .before .before .loop-test .taken) (c .route .result)
+    → Turn (c .before .before .before .before .before .loop .nodes) (c .before .before .before .before .before .loop .dots) (c .before .before .before .before .before .before .before .before .args .rects .now) (node (c .before .before .before .before .before .before .before .before .args .cell)) (c .before .before .before .before .before .before .before .before .args .group) (c .before .before .before .before .before .loop .at) (c .before .before .before .before .before .loop .left) (some (c .before .before .before .before)) (c .route .result)
 asks-child c =
-    subst (λ (k : ℕ). Turn (c .before .before .before .before .before .loop .nodes) (c .before .before .before .before .before .loop .dots) (c .before .before .before .before .before .before .before .before .args .rects .now) (node (c .before .before .before .before .before .before .before .before .args .cell)) (c .before .before .before .before .before .before .before .before .args .group) (c .before .before .before .before .before .loop .at) (c .before .before .before .before .before .loop .left) (c .before .before .before .before .loop-test .taken) k)
+    subst (λ (k : ℕ). Turn (c .before .before .before .before .before .loop .nodes) (c .before .before .before .before .before .loop .dots) (c .before .before .before .before .before .before .before .before .args .rects .now) (node (c .before .before .before .before .before .before .before .before .args .cell)) (c .before .before .before .before .before .before .before .before .args .group) (c .before .before .before .before .before .loop .at) (c .before .before .before .before .before .loop .left) (some (c .before .before .before .before)) k)
     (sym (c .route .ensures ∙ ap (routeCell (c .before .before .before .before .before .before .before .before .args .cell)) (c .before .rect-at .ensures))) (asks (c .before .before .before .before))
 
 loop-holds : tie.Need-loop-holds Inv-loop μ-loop
@@ -73,7 +77,7 @@ loop-again c = (
   ap length (c .before .before .before .before .push-place .ensures .0) ∙ node-length _ _ _ ∙ c .before .before .before .before .before .before .before .before .before .before .before .before .loop .inv .0,
   ap length (c .before .before .before .before .push-place .ensures .1) ∙ next-length _ _ _ ∙ c .before .before .before .before .before .before .before .before .before .before .before .before .loop .inv .1,
   deal-on (c .before .before .before .before .before .before .before .before .before .before .before .before .before .before .before .args .nodes .now) (c .before .before .before .before .before .before .before .before .before .before .before .before .before .before .before .args .dots .now) (c .before .before .before .before .before .before .before .before .before .before .before .before .before .before .before .args .rects .now) (c .before .before .before .before .before .before .before .before .before .before .before .before .before .before .before .args .cell) (c .before .before .before .before .before .before .before .before .before .before .before .before .before .before .before .args .group) (c .before .before .before .before .before .before .before .before .before .before .before .before .before .before .before .args .chain .first) (c .before .before .before .before .before .before .before .before .before .before .before .before .before .before .before .args .chain .count) (c .before .before .before .before .before .before .before .before .before .before .before .before .loop .nodes) (c .before .before .before .before .before .before .before .before .before .before .before .before .loop .dots) (c .before .before .before .before .before .before .before .before .before .before .before .before .loop .at) (c .before .before .before .before .before .before .before .before .before .before .before .before .loop .left) (c .before .before .before .before .before .before .before .before .before .before .before .before .loop .inv .2)
-      (c .before .before .before .before .before .before .before .before .before .before .before .loop-test .taken) (c .before .before .before .before .before .before .before .before .rect-at .result) (c .before .before .before .before .before .before .before .route .result) (c .before .before .before .before .before .before .before .before .before .next-at .result) _ _ (c .before .before .before .before .before .before .before .before .rect-at .ensures) (c .before .before .before .before .before .before .before .route .ensures) (c .before .before .before .before .before .before .before .before .before .next-at .ensures) (c .before .before .before .before .push-place .ensures .0) (c .before .before .before .before .push-place .ensures .1),
+      (some (c .before .before .before .before .before .before .before .before .before .before .before)) (c .before .before .before .before .before .before .before .before .rect-at .result) (c .before .before .before .before .before .before .before .route .result) (c .before .before .before .before .before .before .before .before .before .next-at .result) _ _ (c .before .before .before .before .before .before .before .before .rect-at .ensures) (c .before .before .before .before .before .before .before .route .ensures) (c .before .before .before .before .before .before .before .before .before .next-at .ensures) (c .before .before .before .before .push-place .ensures .0) (c .before .before .before .before .push-place .ensures .1),
 )
 
 same-length : tie.Need-same-length Inv-loop μ-loop

@@ -12,20 +12,20 @@ use Rattle.insert.proofs.split.split_down.Statement.{statement}
 use Rattle.insert.proofs.split.split_down.Tie as tie
 
 abbrev Inv-loop : tie.InvT-loop
-Inv-loop nodes₀ dots₀ rects group splits rect node₀ node-data₀ head₀ left₀ nodes dots node node-data head left =
-    (length nodes ≡ length nodes₀) × (length dots ≡ length dots₀) × Goes rect rects nodes₀ dots₀ head₀ node₀ node-data₀ left₀ nodes dots head node node-data left
+Inv-loop nodes₀ dots₀ rects group splits rect node₀ node-data₀ head₀ rest₀ nodes dots node node-data head rest =
+    (length nodes ≡ length nodes₀) × (length dots ≡ length dots₀) × Goes rect rects nodes₀ dots₀ head₀ node₀ node-data₀ rest₀ nodes dots head node node-data rest
 
 abbrev μ-loop : tie.MeasureT-loop
-μ-loop nodes₀ dots₀ rects group splits rect node₀ node-data₀ head₀ left₀ nodes dots node node-data head left = left
+μ-loop nodes₀ dots₀ rects group splits rect node₀ node-data₀ head₀ rest₀ nodes dots node node-data head rest = rest
 
 -- the insert that the function was called for
 going : (c : tie.In-loop Inv-loop μ-loop)
-    → Going (c .before .before .before .before .before .pre .shape) (c .before .before .before .before .before .pre .dot) (c .before .before .before .before .before .pre .placeHead) (c .before .loop .nodes) (c .before .loop .dots) (c .before .before .before .before .before .args .rects .now) (c .before .loop .head) (c .before .loop .node) (c .before .loop .node-data) (c .before .loop .left)
+    → Going (c .before .before .before .before .before .pre .shape) (c .before .before .before .before .before .pre .dot) (c .before .before .before .before .before .pre .placeHead) (c .before .loop .nodes) (c .before .loop .dots) (c .before .before .before .before .before .args .rects .now) (c .before .loop .head) (c .before .loop .node) (c .before .loop .node-data) (c .before .loop .rest)
 going c = c .before .loop .inv .2 (c .before .before .before .before .before .pre .shape) (c .before .before .before .before .before .pre .dot) (c .before .before .before .before .before .pre .placeHead) (c .before .before .before .before .before .pre .rect) (c .before .before .before .before .before .pre .going)
 
 here : (c : tie.In-loop Inv-loop μ-loop) → Splittable (c .before .loop .nodes) (c .before .loop .dots) (c .before .before .before .before .before .args .rects .now) (c .before .loop .node) (c .before .loop .head)
 here c =
-    go-splits (c .before .before .before .before .before .pre .shape) (c .before .before .before .before .before .pre .dot) (c .before .before .before .before .before .pre .placeHead) (c .before .loop .nodes) (c .before .loop .dots) (c .before .before .before .before .before .args .rects .now) (c .before .loop .head) (c .before .loop .node) (c .before .loop .node-data) (c .before .loop .left)
+    go-splits (c .before .before .before .before .before .pre .shape) (c .before .before .before .before .before .pre .dot) (c .before .before .before .before .before .pre .placeHead) (c .before .loop .nodes) (c .before .loop .dots) (c .before .before .before .before .before .args .rects .now) (c .before .loop .head) (c .before .loop .node) (c .before .loop .node-data) (c .before .loop .rest)
     (going c) (c .loop-test .taken)
 
 child5 : (c : tie.After-route Inv-loop μ-loop) → c .route .result < 5
@@ -51,10 +51,10 @@ add-node c = omega (arith, here (c .before .before .before .before .before .befo
 
 child-requires : tie.Need-child-requires Inv-loop μ-loop
 child-requires c κs = let g = going (c .before .before .before .before .before .before .before .before .before) in
-    (g .range, omega (arith, go-depth (c .before .before .before .before .before .before .before .before .before .before .before .before .before .before .pre .shape) (c .before .before .before .before .before .before .before .before .before .before .before .before .before .before .pre .dot) (c .before .before .before .before .before .before .before .before .before .before .before .before .before .before .pre .placeHead) (c .before .before .before .before .before .before .before .before .before .before .loop .nodes) (c .before .before .before .before .before .before .before .before .before .before .loop .dots) (c .before .before .before .before .before .before .before .before .before .before .before .before .before .before .args .rects .now) (c .before .before .before .before .before .before .before .before .before .before .loop .head) (c .before .before .before .before .before .before .before .before .before .before .loop .node) (c .before .before .before .before .before .before .before .before .before .before .loop .node-data) (c .before .before .before .before .before .before .before .before .before .before .loop .left) g (c .before .before .before .before .before .before .before .before .before .loop-test .taken)))
+    (g .range, omega (arith, go-depth (c .before .before .before .before .before .before .before .before .before .before .before .before .before .before .pre .shape) (c .before .before .before .before .before .before .before .before .before .before .before .before .before .before .pre .dot) (c .before .before .before .before .before .before .before .before .before .before .before .before .before .before .pre .placeHead) (c .before .before .before .before .before .before .before .before .before .before .loop .nodes) (c .before .before .before .before .before .before .before .before .before .before .loop .dots) (c .before .before .before .before .before .before .before .before .before .before .before .before .before .before .args .rects .now) (c .before .before .before .before .before .before .before .before .before .before .loop .head) (c .before .before .before .before .before .before .before .before .before .before .loop .node) (c .before .before .before .before .before .before .before .before .before .before .loop .node-data) (c .before .before .before .before .before .before .before .before .before .before .loop .rest) g (c .before .before .before .before .before .before .before .before .before .loop-test .taken)))
 
-sub-left : tie.Need-sub-left Inv-loop μ-loop
-sub-left c = omega (arith, c .before .before .before .before .before .before .before .before .before .before .loop-test .taken)
+sub-rest : tie.Need-sub-rest Inv-loop μ-loop
+sub-rest c = omega (arith, c .before .before .before .before .before .before .before .before .before .before .loop-test .taken)
 
 loop-less : tie.Need-loop-less Inv-loop μ-loop
 loop-less c = omega (arith, c .before .before .before .before .before .before .before .before .before .before .loop-test .taken)
@@ -65,9 +65,9 @@ loop-again c = let k = c .before .before .before .before .before .before .split-
   k .1 .0 ∙ c .before .before .before .before .before .before .before .before .before .before .before .loop .inv .1,
   λ x dot placeHead e g.
       let now = c .before .before .before .before .before .before .before .before .before .before .before .loop .inv .2 x dot placeHead e g in
-      go-on x dot placeHead (c .before .before .before .before .before .before .before .before .before .before .before .loop .nodes) (c .before .before .before .before .before .before .before .before .before .before .before .loop .dots) (c .before .before .before .before .before .before .before .before .before .before .before .before .before .before .before .args .rects .now) (c .before .before .before .before .before .before .before .before .before .before .before .loop .head) (c .before .before .before .before .before .before .before .before .before .before .before .loop .node) (c .before .before .before .before .before .before .before .before .before .before .before .loop .node-data) (c .before .before .before .before .before .before .before .before .before .before .before .loop .left) now (c .before .before .before .before .before .before .before .before .before .before .loop-test .taken)
+      go-on x dot placeHead (c .before .before .before .before .before .before .before .before .before .before .before .loop .nodes) (c .before .before .before .before .before .before .before .before .before .before .before .loop .dots) (c .before .before .before .before .before .before .before .before .before .before .before .before .before .before .before .args .rects .now) (c .before .before .before .before .before .before .before .before .before .before .before .loop .head) (c .before .before .before .before .before .before .before .before .before .before .before .loop .node) (c .before .before .before .before .before .before .before .before .before .before .before .loop .node-data) (c .before .before .before .before .before .before .before .before .before .before .before .loop .rest) now (c .before .before .before .before .before .before .before .before .before .before .loop-test .taken)
       (c .before .before .before .before .before .before .split-leaf .last .0) (c .before .before .before .before .before .before .split-leaf .last .1 .0) (c .before .before .before .before .before .before .split-leaf .result) (c .before .route .result) (c .child .result) (k .0) (k .1 .0)
-      (c .before .before .before .before .before .before .split-leaf .ensures .1 (c .before .before .before .before .before .before .before .before .before .before .before .loop .node-data) refl (go-splits x dot placeHead (c .before .before .before .before .before .before .before .before .before .before .before .loop .nodes) (c .before .before .before .before .before .before .before .before .before .before .before .loop .dots) (c .before .before .before .before .before .before .before .before .before .before .before .before .before .before .before .args .rects .now) (c .before .before .before .before .before .before .before .before .before .before .before .loop .head) (c .before .before .before .before .before .before .before .before .before .before .before .loop .node) (c .before .before .before .before .before .before .before .before .before .before .before .loop .node-data) (c .before .before .before .before .before .before .before .before .before .before .before .loop .left) now (c .before .before .before .before .before .before .before .before .before .before .loop-test .taken)))
+      (c .before .before .before .before .before .before .split-leaf .ensures .1 (c .before .before .before .before .before .before .before .before .before .before .before .loop .node-data) refl (go-splits x dot placeHead (c .before .before .before .before .before .before .before .before .before .before .before .loop .nodes) (c .before .before .before .before .before .before .before .before .before .before .before .loop .dots) (c .before .before .before .before .before .before .before .before .before .before .before .before .before .before .before .args .rects .now) (c .before .before .before .before .before .before .before .before .before .before .before .loop .head) (c .before .before .before .before .before .before .before .before .before .before .before .loop .node) (c .before .before .before .before .before .before .before .before .before .before .before .loop .node-data) (c .before .before .before .before .before .before .before .before .before .before .before .loop .rest) now (c .before .before .before .before .before .before .before .before .before .before .loop-test .taken)))
       (c .before .before .before .before .before .before .split-leaf .ensures .0) (c .before .route .ensures ∙ ap (routeCell (c .before .before .before .before .before .before .before .before .before .before .before .loop .node-data .cell)) (sym e)) (c .child .ensures),
 )
 
@@ -93,7 +93,7 @@ split-down-spec =
     cast-node-2
     add-node
     child-requires
-    sub-left
+    sub-rest
     loop-less
     loop-again
     same-length
