@@ -10,8 +10,8 @@ ghost use Rattle.tree.specs.Operations.{IsTree, CarriedOut};
 ghost use Rattle.tree_insert.specs.Answers.{insertedState, insertedReply};
 ghost use Rattle.tree_insert.specs.Landings.{Lands, Starts, CanInsert, pushedNodes, pushedDots, pushedRects};
 
-pub mod needed;
-pub mod split;
+mod needed;
+mod split;
 
 use crate::needed::has_free;
 use crate::needed::splits_needed;
@@ -73,6 +73,7 @@ fn insert_at(
     }
 }
 
+// Inserts a dot: refusals 4 to 7 store nothing, and the answer is the number of splits.
 pub fn insert_dot(
     state: State,
     dot: Dot,
@@ -91,7 +92,9 @@ pub fn insert_dot(
     if !settings.root().contains(rect) {
         return Inserted::Refused(5);
     }
-    if state.live as usize == dots.len() / 2 {
+    // The live dots, with this one.
+    let live = state.live as usize + 1;
+    if dots.len() / 2 < live {
         return Inserted::Refused(6);
     }
     let leaf = find_leaf(settings, nodes, rect);

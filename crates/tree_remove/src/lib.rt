@@ -102,6 +102,7 @@ fn free_place(dots: &mut [u32], rects: &mut [i32], place: usize, head: u32)
     set_next(dots, place, head);
 }
 
+// Removes the first dot with an id in the leaf that a rectangle routes to; the dot's own rectangle isn't compared.
 pub fn remove_dot(
     state: State,
     id: u32,
