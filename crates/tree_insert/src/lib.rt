@@ -60,17 +60,11 @@ fn insert_at(
     requires { ⌜ CanInsert state dot (now nodes) (now dots) (now rects) leaf splits ⌝ }
     ensures { λ r. ⌜ ((marks : List ℕ) (x : Shape) → Starts state dot (now (nodes .entry)) (now (dots .entry)) (now (rects .entry)) leaf splits marks x → Holds (world r (now (nodes .exit)) (now (dots .exit)) (now (rects .exit)) (replicate (length marks) 0)) (inserted dot x)) ⌝ }
 {
-    let settings = state.settings;
     let place = state.free_place;
     let reached = split_down(nodes, dots, rects, leaf, state.free_group, splits, dot.rect);
     let next = next_at(dots, place as usize);
     push_dot(nodes, dots, rects, reached.node, place, dot);
-    State {
-        settings,
-        free_group: reached.group,
-        free_place: next,
-        live: state.live + 1,
-    }
+    state.changed(reached.group, next, state.live + 1)
 }
 
 // Inserts a dot: refusals 4 to 7 store nothing, and the answer is the number of splits.

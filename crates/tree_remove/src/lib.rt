@@ -124,10 +124,5 @@ pub fn remove_dot(
     let place = hit.place;
     unlink(nodes, dots, node, leaf, hit);
     free_place(dots, rects, place as usize, state.free_place);
-    Removed::Yes(State {
-        settings,
-        free_group: state.free_group,
-        free_place: place,
-        live: state.live - 1,
-    })
+    Removed::Yes(state.changed(state.free_group, place, state.live - 1))
 }

@@ -1,7 +1,12 @@
 -- The code looks up what the laws of the remove speak of, and its stores are theirs.
-use mathlib.Core.Path.{_≡_}
+use mathlib.Core.Path.{_≡_, sym, subst}
+use mathlib.Core.List.{[]}
+use mathlib.Core.Bool.{true}
+use lib.ListN.{length, replicate}
 use native.Mathlib.Omega.{arith}
-use Rattle.model.specs.Layout.{none}
+use Rattle.model.specs.declared.State.{State}
+use Rattle.model.specs.Layout.{none, world}
+use Rattle.model.specs.Calls.{answered, exit, carriedOut, removeRule}
 use Rattle.tree.specs.Routes.{holds-way}
 use Rattle.tree.specs.Leaves.{leads-has}
 use Rattle.tree_remove.specs.Removes.{Looked, Takes, leads-searchable, look-takes, look-no, look-yes}
@@ -67,11 +72,14 @@ free-place-requires c κs =
     let unlink = c .before .before .before .before .before .before .unlink in
     let t = takes (c .before .before .before .before .before .before .before .before .before) (if1 .left) in (omega (arith, t .unlinks .2, unlink .kept), t .rect)
 
-sub-t30 : tie.Need-sub-t30
+sub-changed : tie.Need-sub-changed
 unfolding none
-sub-t30 c =
+sub-changed c =
     let if1 = c .before .before .before .before .before .before .before .before .before .before .before .before .before .before .if1 in
     takes (c .before .before .before .before .before .before .before .before .before .before .before .before .before .before) (if1 .left) .live
+
+changed-requires : tie.Need-changed-requires
+changed-requires c κs = search needs
 
 same-length-3 : tie.Need-same-length-3
 same-length-3 c = search needs
@@ -85,16 +93,20 @@ same-length-5 c = search needs
 returns-2 : tie.Need-returns-2
 unfolding none
 returns-2 c =
-    let args = c .before .before .before .before .before .before .before .before .before .before .before .before .before .before .before .before .before .before .before .before .before .before .before .before .before .args in
-    let find-leaf = c .before .before .before .before .before .before .before .before .before .before .before .before .before .before .before .before .before .before .before .before .find-leaf in
-    let node-at = c .before .before .before .before .before .before .before .before .before .before .before .before .before .before .before .before .before .before .node-at in
-    let find-dot = c .before .before .before .before .before .before .before .before .before .before .before .before .before .before .before .before .find-dot in
-    let if1 = c .before .before .before .before .before .before .before .before .before .before .before .before .before .before .if1 in
-    let unlink = c .before .before .before .before .before .before .before .before .before .before .before .unlink in
-    let free-place = c .before .before .before .before .free-place in
-    λ marks x h. look-yes (args .state) (args .nodes .now) (args .dots .now) (args .rects .now) marks x h (args .id) (args .rect) (find-leaf .result) (node-at .result) (find-dot .result)
-    (looked (c .before .before .before .before .before .before .before .before .before .before .before .before .before .before .before .before)) (if1 .left) (unlink .last .0) (unlink .last .1 .0) (free-place .last .0) (free-place .last .1 .0)
-    (unlink .ensures .0) (unlink .ensures .1) (free-place .ensures .0) (free-place .ensures .1)
+    let args = c .before .before .before .before .before .before .before .before .before .before .before .before .before .before .before .before .before .before .before .before .before .before .before .before .before .before .args in
+    let find-leaf = c .before .before .before .before .before .before .before .before .before .before .before .before .before .before .before .before .before .before .before .before .before .find-leaf in
+    let node-at = c .before .before .before .before .before .before .before .before .before .before .before .before .before .before .before .before .before .before .before .node-at in
+    let find-dot = c .before .before .before .before .before .before .before .before .before .before .before .before .before .before .before .before .before .find-dot in
+    let if1 = c .before .before .before .before .before .before .before .before .before .before .before .before .before .before .before .if1 in
+    let unlink = c .before .before .before .before .before .before .before .before .before .before .before .before .unlink in
+    let free-place = c .before .before .before .before .before .free-place in
+    let t = c .changed in
+    λ marks x h.
+    subst (λ (s′ : State). exit (world s′ (unlink .last .0) (free-place .last .0) (free-place .last .1 .0) (replicate (length marks) 0)) [] (answered true)
+    ≡ carriedOut (world (args .state) (args .nodes .now) (args .dots .now) (args .rects .now) marks) [] (removeRule (args .id) (args .rect) x)) (sym (t .ensures))
+    (look-yes (args .state) (args .nodes .now) (args .dots .now) (args .rects .now) marks x h (args .id) (args .rect) (find-leaf .result) (node-at .result) (find-dot .result)
+    (looked (c .before .before .before .before .before .before .before .before .before .before .before .before .before .before .before .before .before)) (if1 .left) (unlink .last .0) (unlink .last .1 .0) (free-place .last .0) (free-place .last .1 .0)
+    (unlink .ensures .0) (unlink .ensures .1) (free-place .ensures .0) (free-place .ensures .1))
 
 pub remove-dot-spec : {M : Type 1} → statement M
 remove-dot-spec =
@@ -109,7 +121,8 @@ remove-dot-spec =
     unlink-requires
     cast-free-place
     free-place-requires
-    sub-t30
+    sub-changed
+    changed-requires
     same-length-3
     same-length-4
     same-length-5
