@@ -19,7 +19,7 @@ use Rattle.memory.specs.declared.make.Making.{Making}
 use Rattle.memory.specs.Fresh.{stateAfter, replyOf as makeReply}
 use Rattle.tree_check.specs.Checks.{Checked}
 use Rattle.calls.specs.declared.references.Counted.{Counted}
-use Rattle.calls.specs.References.{replyOf}
+use Rattle.calls.specs.Answers.{referencesReply}
 use Rattle.calls_export.specs.Rows.{signed, settingsIn, stateIn, ExportedCheck, countResult, countRow, ExportedReferences, makeResult, makeRow, ExportedMake}
 
 pub signed-near : (w : ℕ) → w < 2147483648 → signed w ≡ pos w
@@ -52,12 +52,12 @@ module _ (row nodes dots : List ℕ) (rects : List ℤ) (marks : List ℕ) where
   references-other answers ne = record { otherLength = λ _. (refl, refl, refl); state = λ e. absurd (ne e) }
 
   pub references-row : (answers : List ℕ) (s : State) (marks′ answers′ : List ℕ) (result : ℕ) (c : Counted) → length row ≡ 10 → s ≡ stateIn row
-      → References (world s nodes dots rects marks) (world s nodes dots rects marks′) (replyOf c) → result ≡ countResult c → answers′ ≡ countRow c answers
+      → References (world s nodes dots rects marks) (world s nodes dots rects marks′) (referencesReply c) → result ≡ countResult c → answers′ ≡ countRow c answers
       → ExportedReferences row nodes dots rects marks answers marks′ answers′ result
   references-row answers s marks′ answers′ result c ten e r same written =
       record {
         otherLength = λ ne. absurd (ne ten);
-        state = λ _. (c, subst (λ (t : State). References (world t nodes dots rects marks) (world t nodes dots rects marks′) (replyOf c)) e r, same, written);
+        state = λ _. (c, subst (λ (t : State). References (world t nodes dots rects marks) (world t nodes dots rects marks′) (referencesReply c)) e r, same, written);
       }
 
   pub make-other : (length row ≡ 10 → ⊥) → ExportedMake row nodes dots rects marks row nodes dots rects marks 1

@@ -19,7 +19,7 @@ use Rattle.memory.specs.Fresh.{stateAfter, replyOf as makeReply}
 use Rattle.tree_check.specs.Checks.{Checked}
 use Rattle.calls.specs.declared.references.Counted.{Counted}
 use Rattle.calls.specs.declared.references.Counted.the-variants.{Refused, Count}
-use Rattle.calls.specs.References.{replyOf}
+use Rattle.calls.specs.Answers.{referencesReply}
 
 unfoldable pub signed : ℕ → ℤ
 signed w = cond (ltb w 2147483648) (pos w) (negsuc (4294967295 - w))
@@ -57,7 +57,7 @@ countRow (Count n) answers = set answers 0 n
 pub record ExportedReferences (row nodes dots : List ℕ) (rects : List ℤ) (marks answers marks′ answers′ : List ℕ) (result : ℕ) : Type 0 where
   pub otherLength : (length row ≡ 10 → ⊥) → (result ≡ 1) × (marks′ ≡ marks) × (answers′ ≡ answers)
   pub state : length row ≡ 10
-      → (c : Counted) × References (world (stateIn row) nodes dots rects marks) (world (stateIn row) nodes dots rects marks′) (replyOf c)
+      → (c : Counted) × References (world (stateIn row) nodes dots rects marks) (world (stateIn row) nodes dots rects marks′) (referencesReply c)
       × (result ≡ countResult c) × (answers′ ≡ countRow c answers)
 
 -- ---- make
