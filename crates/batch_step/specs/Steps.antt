@@ -33,8 +33,8 @@ pub record Stepped (r : Record) (i : ℕ) (b : Batched) (answers nodes dots : Li
       → Holds (world (b′ .state) nodes′ dots′ rects′ marks) (carryOut r x .shape) × (answers′ ≡ set answers i (carryOut r x .word))
 
 -- '1 covers rows of unequal length.' 'The check is made once.'
-pub record Begun (records words : ℕ) (s : State) (nodes dots : List ℕ) (rects : List ℤ) (marks : List ℕ) (b : Batched) (nodes′ dots′ : List ℕ) (rects′ : List ℤ) (marks′ : List ℕ) : Type 0 where
-  pub kept : world (b .state) nodes′ dots′ rects′ marks′ ≡ world s nodes dots rects marks′
+pub record Begun (records words : ℕ) (s : State) (nodes dots : List ℕ) (rects : List ℤ) (marks : List ℕ) (b : Batched) (marks′ : List ℕ) : Type 0 where
+  pub kept : b .state ≡ s
   pub unequal : (records ≡ words → ⊥) → (b .refusal ≡ 1) × (marks′ ≡ marks)
   pub checked : records ≡ words → Checked s nodes dots rects marks marks′ (b .refusal)
   pub refused : (b .refusal ≡ 0 → ⊥) → b .count ≡ 0

@@ -28,6 +28,7 @@ pub struct Recorded {
     pub state: State,
 }
 
+// The answer word of a refusal.
 fn refused_word(refusal: u32) -> u32
     requires { ⌜ refusal ≤ 255 ⌝ }
     ensures { λ r. ⌜ r ≡ refusedWord refusal ⌝ }
@@ -35,12 +36,14 @@ fn refused_word(refusal: u32) -> u32
     4294967040 + refusal
 }
 
+// The answer word of a yes or no.
 fn yes_no(yes: bool) -> u32
     ensures { λ r. ⌜ r ≡ yesNo yes ⌝ }
 {
     if yes { 1 } else { 0 }
 }
 
+// An insert, with its answer word.
 fn insert_record(
     state: State,
     dot: Dot,
@@ -63,6 +66,7 @@ fn insert_record(
     }
 }
 
+// A remove, with its answer word.
 fn remove_record(
     state: State,
     dot: Dot,
@@ -144,12 +148,12 @@ pub fn begin(
     records: usize,
     words: usize,
     state: State,
-    nodes: &mut [u32],
-    dots: &mut [u32],
-    rects: &mut [i32],
+    nodes: &[u32],
+    dots: &[u32],
+    rects: &[i32],
     marks: &mut [u8],
 ) -> Batched
-    ensures { λ r. ⌜ Begun records words state (now (nodes .entry)) (now (dots .entry)) (now (rects .entry)) (now (marks .entry)) r (now (nodes .exit)) (now (dots .exit)) (now (rects .exit)) (now (marks .exit)) ⌝ }
+    ensures { λ r. ⌜ Begun records words state (now (nodes .entry)) (now (dots .entry)) (now (rects .entry)) (now (marks .entry)) r (now (marks .exit)) ⌝ }
 {
     if records != words {
         return Batched {

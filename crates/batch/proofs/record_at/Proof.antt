@@ -1,8 +1,6 @@
--- `batch::record_at` meets its contract: a walk of its MIR, by hand. The place of `rows[i]` is 24 * i past the slice's pointer, and the record is copied out there.
--- A record is Copy: what it owns is had twice, one goes back into the row, and the other is the result's.
--- The code has no check of the bound: it is the contract's to ask.
--- Assumes nothing.
-use mathlib.Core.Path.{_≡_, refl, sym}
+-- A walk of the MIR by hand: `rows[i]` stands 24 * i bytes past the slice's pointer, and the record is copied out there.
+-- What the record owns is had twice: one goes back into the row, the other is the result's.
+use mathlib.Core.Path.{refl, sym}
 use Prim.Native.Nat.{ℕ, _<_, _*_, _^_}
 use native.Mathlib.Omega.{arith}
 use mathlib.Core.List.{List, [], _∷_}
@@ -23,7 +21,7 @@ use types.Kit.{Given, ‵, _⊛_, ⋆, _$_, _∵_, !, qed, by, move, keep, use1,
 use types.Part.{whole, sub, look-in}
 use types.Run.{look, look-raw, init, forget, stop, hop, fld, from, load, lit, of-opd, bin, assigns, returns, enter, alloc1, alloc0, params1, pass1, pass0, free1, free0}
 use sound.WpLaws.{WpFn-mono}
-use denote.RattleType.{RattleType, owns}
+use denote.RattleType.{owns}
 use denote.Laws.{Is, shows}
 use denote.Plain.{uint-vals, uint-tells}
 use denote.Builtin.{usize}

@@ -10,16 +10,15 @@ use Prim.Native.Nat.{ℕ, zero, suc, _≤_, _<_}
 use native.Mathlib.Omega.{arith}
 use lib.IntN.{ℤ}
 use lib.Dec.{eqb}
-use lib.ListN.{length, getD, set, take, drop, replicate, take-append-drop, drop-of-length-le, length-take}
+use lib.ListN.{length, getD, set, take, drop, replicate}
 use lib.Seq.{take-suc, drop-cons, append-snoc, set-append-seam}
 use borrow.Author.Tests.{eq-eqb, ne-eqb, eqb-true}
 use Rattle.arithmetic.specs.Tests.{byBool, true-false}
-use Rattle.geometry.specs.Settings.{inRange}
 use Rattle.model.specs.declared.Record.{Record}
 use Rattle.model.specs.declared.State.{State}
 use Rattle.model.specs.Shapes.{Shape}
-use Rattle.model.specs.Layout.{World, world, cleared, layout, Holds, lengthsRight}
-use Rattle.model.specs.Calls.{Reply, refused, answered, exit, carriedOut, Obeys, Batch, batchRule, batchShape, batchWords, carryOut}
+use Rattle.model.specs.Layout.{world, cleared, layout, Holds, lengthsRight}
+use Rattle.model.specs.Calls.{refused, answered, exit, carriedOut, Obeys, Batch, batchRule, batchShape, batchWords, carryOut}
 use Rattle.model.specs.Laws.Batches.{batch-words, batch-append}
 use Rattle.tree_check.specs.Checks.{Checked}
 use Rattle.tree_check.specs.Laws.Calls.{checked-obeys}
@@ -53,16 +52,16 @@ no-two true e = true-false (sym e)
 no-two false e = true-false (sym e)
 
 module _ (rs : List Record) (s : State) (answers nodes dots : List ℕ) (rects : List ℤ) (marks : List ℕ) where
-  pub progress-begun : (b : Batched) (nodes′ dots′ : List ℕ) (rects′ : List ℤ) (marks′ : List ℕ)
-      → Begun (length rs) (length answers) s nodes dots rects marks b nodes′ dots′ rects′ marks′ → Progress rs s answers nodes dots rects marks 0 (words b answers nodes′ dots′ rects′ marks′)
-  progress-begun b nodes′ dots′ rects′ marks′ begun =
+  pub progress-begun : (b : Batched) (marks′ : List ℕ) → Begun (length rs) (length answers) s nodes dots rects marks b marks′
+      → Progress rs s answers nodes dots rects marks 0 (words b answers nodes dots rects marks′)
+  progress-begun b marks′ begun =
       record {
         unequal = begun .unequal;
         checked = begun .checked;
         refused = begun .refused;
         accepted = begun .accepted;
-        idle = λ e. (begun .kept, refl);
-        run = λ m x h. (subst (λ (v : World). Holds (world (v .state) (v .nodes) (v .dots) (v .rects) m) x) (sym (begun .kept)) h, refl);
+        idle = λ e. (ap (λ (t : State). world t nodes dots rects marks′) (begun .kept), refl);
+        run = λ m x h. (subst (λ (t : State). Holds (world t nodes dots rects m) x) (sym (begun .kept)) h, refl);
       }
 
   module _ (i : ℕ) (w : Words) (p : Progress rs s answers nodes dots rects marks i w) where

@@ -21,60 +21,28 @@ check-requires c κs = search needs
 same-length : tie.Need-same-length
 same-length c = search needs
 
-same-length-2 : tie.Need-same-length-2
-same-length-2 c = search needs
-
-same-length-3 : tie.Need-same-length-3
-same-length-3 c = search needs
-
-same-length-4 : tie.Need-same-length-4
-same-length-4 c = search needs
-
 returns-2 : tie.Need-returns-2
 returns-2 c =
     record {
       kept = refl;
-      unequal = λ u. absurd (u (c .before .before .before .before .before .before .before .before .if1 .left));
+      unequal = λ u. absurd (u (c .before .before .before .before .before .if1 .left));
       checked = λ e. c .before .before .before .check .ensures;
       refused = λ u. refl;
       accepted = λ z. absurd (c .if2 .taken z);
     }
 
-same-length-5 : tie.Need-same-length-5
-same-length-5 c = search needs
-
-same-length-6 : tie.Need-same-length-6
-same-length-6 c = search needs
-
-same-length-7 : tie.Need-same-length-7
-same-length-7 c = search needs
-
-same-length-8 : tie.Need-same-length-8
-same-length-8 c = search needs
+same-length-2 : tie.Need-same-length-2
+same-length-2 c = search needs
 
 returns-3 : tie.Need-returns-3
 returns-3 c =
     record {
       kept = refl;
-      unequal = λ u. absurd (u (c .before .before .before .before .before .before .before .before .if1 .left));
+      unequal = λ u. absurd (u (c .before .before .before .before .before .if1 .left));
       checked = λ e. c .before .before .before .check .ensures;
       refused = λ u. absurd (u (c .if2 .left));
       accepted = λ z. refl;
     }
 
 pub begin-spec : {M : Type 1} → statement M
-begin-spec =
-    tie.close
-    (tie.spec
-    returns
-    check-requires
-    same-length
-    same-length-2
-    same-length-3
-    same-length-4
-    returns-2
-    same-length-5
-    same-length-6
-    same-length-7
-    same-length-8
-    returns-3)
+begin-spec = tie.close (tie.spec returns check-requires same-length returns-2 same-length-2 returns-3)

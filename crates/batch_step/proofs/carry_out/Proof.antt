@@ -3,7 +3,7 @@ use mathlib.Core.Path.{sym, subst}
 use Prim.Native.Nat.{ℕ}
 use Rattle.model.specs.Calls.{carryOut}
 use Rattle.tree_cleanup.specs.Answers.{CleanedUp}
-use Rattle.batch_step.specs.Steps.{recordOf, Leaves}
+use Rattle.batch_step.specs.Steps.{Leaves}
 use Rattle.batch_step.specs.Laws.Records.{cleanup-leaves, other-leaves, kind-leaves}
 use borrow.Author.Needs.{needs}
 use Rattle.batch_step.proofs.carry_out.Statement.{statement}
