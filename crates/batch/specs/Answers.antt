@@ -1,0 +1,15 @@
+-- What the batch's answer says.
+use mathlib.Core.Bool.{cond}
+use lib.Dec.{eqb}
+use lib.IntN.{pos}
+use Rattle.model.specs.declared.Record.{Record}
+use Rattle.model.specs.Calls.{Reply, refused, answered}
+use Rattle.batch_step.specs.declared.Batched.{Batched}
+
+-- a refusal of the whole batch; 0 is none
+unfoldable pub batchReply : Batched → Reply (Unit {0})
+batchReply b = cond (eqb (b .refusal) 0) (answered tt) (refused (b .refusal))
+
+-- stands where a row has no record
+abbrev pub noRecord : Record
+noRecord = record { kind = 0; dot = record { id = 0; rect = record { x1 = pos 0; y1 = pos 0; x2 = pos 0; y2 = pos 0 } } }

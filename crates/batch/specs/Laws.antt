@@ -1,0 +1,2 @@
+-- Laws of the batch.
+pub mod Runs

@@ -1,0 +1,2 @@
+-- Laws of the steps.
+pub mod Records

@@ -1,0 +1,41 @@
+-- What the steps of a batch leave.
+--     Leaves       what a record leaves, for every marks and shape that the words hold
+--     Stepped      the same with the answer row
+--     Begun        the check of all that a batch is lent
+use mathlib.Core.Path.{_≡_}
+use mathlib.Core.List.{List}
+use Prim.Native.Nat.{ℕ}
+use lib.IntN.{ℤ}
+use lib.ListN.{set}
+use Rattle.model.specs.declared.Dot.{Dot}
+use Rattle.model.specs.declared.Record.{Record}
+use Rattle.model.specs.declared.State.{State}
+use Rattle.model.specs.Shapes.{Shape}
+use Rattle.model.specs.Layout.{world, Holds}
+use Rattle.model.specs.Calls.{Recorded, carryOut}
+use Rattle.tree_check.specs.Checks.{Checked}
+use Rattle.batch_step.specs.declared.Batched.{Batched}
+
+abbrev pub recordOf : ℕ → Dot → Record
+recordOf kind dot = record { kind = kind; dot = dot }
+
+-- the words hold the shape that the rule leaves, and the answer is its word
+unfoldable pub Leaves : (Shape → Recorded) → State → List ℕ → List ℕ → List ℤ → State → List ℕ → List ℕ → List ℤ → ℕ → Type 0
+Leaves rule s nodes dots rects s′ nodes′ dots′ rects′ word =
+    (marks : List ℕ) (x : Shape) → Holds (world s nodes dots rects marks) x
+    → Holds (world s′ nodes′ dots′ rects′ marks) (rule x .shape) × (word ≡ rule x .word)
+
+-- 'A refused record writes its own answer word and nothing else; records after it go on.'
+pub record Stepped (r : Record) (i : ℕ) (b : Batched) (answers nodes dots : List ℕ) (rects : List ℤ) (b′ : Batched) (answers′ nodes′ dots′ : List ℕ) (rects′ : List ℤ) : Type 0 where
+  pub refusal : b′ .refusal ≡ b .refusal
+  pub count : b′ .count ≡ b .count
+  pub words : (marks : List ℕ) (x : Shape) → Holds (world (b .state) nodes dots rects marks) x
+      → Holds (world (b′ .state) nodes′ dots′ rects′ marks) (carryOut r x .shape) × (answers′ ≡ set answers i (carryOut r x .word))
+
+-- '1 covers rows of unequal length.' 'The check is made once.'
+pub record Begun (records words : ℕ) (s : State) (nodes dots : List ℕ) (rects : List ℤ) (marks : List ℕ) (b : Batched) (marks′ : List ℕ) : Type 0 where
+  pub kept : b .state ≡ s
+  pub unequal : (records ≡ words → ⊥) → (b .refusal ≡ 1) × (marks′ ≡ marks)
+  pub checked : records ≡ words → Checked s nodes dots rects marks marks′ (b .refusal)
+  pub refused : (b .refusal ≡ 0 → ⊥) → b .count ≡ 0
+  pub accepted : b .refusal ≡ 0 → b .count ≡ records
