@@ -155,11 +155,11 @@ fn compare(random: &mut Random, m: &Memory, counts: &mut [u64; 4]) {
     let answer = exports::check(&state, &mut lent);
     assert!(answer == expected, "check says {answer}, document 01 {expected}: {m:?}");
     assert!(lent == wanted, "check wrote: {m:?}");
-    let mut count = [7];
+    let mut count = [7; 2];
     let answer = exports::references(&state, &mut again, &mut count);
     assert!(answer == expected, "references says {answer}, document 01 {expected}: {m:?}");
     assert!(again == wanted, "references wrote: {m:?}");
-    assert!(count[0] == if expected == 0 { m.live } else { 7 }, "references counts {}: {m:?}", count[0]);
+    assert!(count == if expected == 0 { [m.live, 0] } else { [7; 2] }, "references counts {count:?}: {m:?}");
 }
 
 fn round(random: &mut Random, made: &mut [u64; 4], counts: &mut [u64; 4]) {

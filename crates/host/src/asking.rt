@@ -1,0 +1,145 @@
+// The calls that leave the tree as it is: query, all, leaves, references, and the check alone.
+ghost use Rattle.host.specs.Rows.{rectOf};
+ghost use Rattle.host.specs.Exports.{lent, Queries, ListsAll, ListsLeaves, Counts, Checks};
+use crate::rows::answer_out;
+use crate::rows::rows_fit;
+use crate::rows::state_in;
+use crate::rows::too_many;
+use calls::leaves::LeavesAnswer;
+use calls::leaves::leaves;
+use calls::query::QueryAnswer;
+use calls::query::all;
+use calls::query::query;
+use calls::references::Counted;
+use calls::references::references;
+use geometry::aabb::AABB;
+use tree_check::check::check;
+
+// The ids of the dots that the rectangle meets; the answer is their number and the nodes opened.
+#[no_mangle]
+pub extern "C" fn krakvinge_query(
+    state: &[u32],
+    nodes: &[u32],
+    dots: &[u32],
+    rects: &[i32],
+    marks: &mut [u8],
+    x1: i32,
+    y1: i32,
+    x2: i32,
+    y2: i32,
+    ids: &mut [u32],
+    answer: &mut [u32],
+) -> u64
+    ensures { λ r. ⌜ Queries (rectOf x1 y1 x2 y2) (lent (now (state .entry)) (now (nodes .entry)) (now (dots .entry)) (now (rects .entry)) (now (marks .entry)) (now (answer .entry))) (now (ids .entry)) (lent (now (state .exit)) (now (nodes .exit)) (now (dots .exit)) (now (rects .exit)) (now (marks .exit)) (now (answer .exit))) (now (ids .exit)) r ⌝ }
+{
+    if !rows_fit(state, answer) {
+        return 1;
+    }
+    let before = state_in(state);
+    let rect = AABB { x1, y1, x2, y2 };
+    match query(before, nodes, dots, rects, marks, rect, ids) {
+        QueryAnswer::Refused(refusal) => refusal as u64,
+        QueryAnswer::TooMany(many) => too_many(many),
+        QueryAnswer::Listed(hits, opened) => {
+            answer_out(answer, hits, opened);
+            0
+        }
+    }
+}
+
+// A query with the root's rectangle.
+#[no_mangle]
+pub extern "C" fn krakvinge_all(
+    state: &[u32],
+    nodes: &[u32],
+    dots: &[u32],
+    rects: &[i32],
+    marks: &mut [u8],
+    ids: &mut [u32],
+    answer: &mut [u32],
+) -> u64
+    ensures { λ r. ⌜ ListsAll (lent (now (state .entry)) (now (nodes .entry)) (now (dots .entry)) (now (rects .entry)) (now (marks .entry)) (now (answer .entry))) (now (ids .entry)) (lent (now (state .exit)) (now (nodes .exit)) (now (dots .exit)) (now (rects .exit)) (now (marks .exit)) (now (answer .exit))) (now (ids .exit)) r ⌝ }
+{
+    if !rows_fit(state, answer) {
+        return 1;
+    }
+    let before = state_in(state);
+    match all(before, nodes, dots, rects, marks, ids) {
+        QueryAnswer::Refused(refusal) => refusal as u64,
+        QueryAnswer::TooMany(many) => too_many(many),
+        QueryAnswer::Listed(hits, opened) => {
+            answer_out(answer, hits, opened);
+            0
+        }
+    }
+}
+
+// Six numbers a leaf: centre x, centre y, half width, half height, depth, count; the answer is the number of leaves.
+#[no_mangle]
+pub extern "C" fn krakvinge_leaves(
+    state: &[u32],
+    nodes: &[u32],
+    dots: &[u32],
+    rects: &[i32],
+    marks: &mut [u8],
+    row: &mut [i32],
+    answer: &mut [u32],
+) -> u64
+    ensures { λ r. ⌜ ListsLeaves (lent (now (state .entry)) (now (nodes .entry)) (now (dots .entry)) (now (rects .entry)) (now (marks .entry)) (now (answer .entry))) (now (row .entry)) (lent (now (state .exit)) (now (nodes .exit)) (now (dots .exit)) (now (rects .exit)) (now (marks .exit)) (now (answer .exit))) (now (row .exit)) r ⌝ }
+{
+    if !rows_fit(state, answer) {
+        return 1;
+    }
+    let before = state_in(state);
+    match leaves(before, nodes, dots, rects, marks, row) {
+        LeavesAnswer::Refused(refusal) => refusal as u64,
+        LeavesAnswer::TooMany(many) => too_many(many),
+        LeavesAnswer::Listed(many) => {
+            answer_out(answer, many, 0);
+            0
+        }
+    }
+}
+
+// The dots in all leaves; the answer is their number.
+#[no_mangle]
+pub extern "C" fn krakvinge_references(
+    state: &[u32],
+    nodes: &[u32],
+    dots: &[u32],
+    rects: &[i32],
+    marks: &mut [u8],
+    answer: &mut [u32],
+) -> u64
+    ensures { λ r. ⌜ Counts (lent (now (state .entry)) (now (nodes .entry)) (now (dots .entry)) (now (rects .entry)) (now (marks .entry)) (now (answer .entry))) (lent (now (state .exit)) (now (nodes .exit)) (now (dots .exit)) (now (rects .exit)) (now (marks .exit)) (now (answer .exit))) r ⌝ }
+{
+    if !rows_fit(state, answer) {
+        return 1;
+    }
+    let before = state_in(state);
+    match references(before, nodes, dots, rects, marks) {
+        Counted::Refused(refusal) => refusal as u64,
+        Counted::Count(count) => {
+            answer_out(answer, count, 0);
+            0
+        }
+    }
+}
+
+// The check that each call begins with, alone: 0 where the rows are a tree.
+#[no_mangle]
+pub extern "C" fn krakvinge_check(
+    state: &[u32],
+    nodes: &[u32],
+    dots: &[u32],
+    rects: &[i32],
+    marks: &mut [u8],
+) -> u64
+    ensures { λ r. ⌜ Checks (now (state .entry)) (now (nodes .entry)) (now (dots .entry)) (now (rects .entry)) (now (marks .entry)) (now (marks .exit)) r ⌝ }
+{
+    if state.len() != 10 {
+        return 1;
+    }
+    let before = state_in(state);
+    check(before, nodes, dots, rects, marks) as u64
+}

@@ -1,0 +1,63 @@
+/* A worked example for a C host: a film of 16 by 16, three dots, a window, and what is refused. */
+#include "krakvinge.h"
+#include <inttypes.h>
+#include <stdio.h>
+
+#define GROUPS 4
+#define PLACES 8
+
+static uint32_t state[KRAKVINGE_STATE_WORDS] = {0, 0, 16, 16, 2, 2, 1, 0, 0, 0};
+static uint32_t nodes[KRAKVINGE_NODE_WORDS(GROUPS)];
+static uint32_t dots[KRAKVINGE_DOT_WORDS(PLACES)];
+static int32_t rects[KRAKVINGE_RECT_WORDS(PLACES)];
+static uint8_t marks[KRAKVINGE_MARK_BYTES(GROUPS, PLACES)];
+static uint32_t answer[KRAKVINGE_ANSWER_WORDS];
+
+#define WORDS(row) (sizeof(row) / sizeof(row)[0])
+#define TREE state, WORDS(state), nodes, WORDS(nodes), dots, WORDS(dots), rects, WORDS(rects), marks, WORDS(marks)
+#define ANSWER answer, WORDS(answer)
+
+static void insert(uint32_t id, int32_t x1, int32_t y1, int32_t x2, int32_t y2) {
+    uint64_t result = krakvinge_insert(TREE, id, x1, y1, x2, y2, ANSWER);
+    if (result == 0)
+        printf("insert %" PRIu32 ": %" PRIu32 " splits\n", id, answer[0]);
+    else
+        printf("insert %" PRIu32 ": refused %" PRIu32 "\n", id, KRAKVINGE_REFUSAL(result));
+}
+
+static void query(size_t room) {
+    uint32_t ids[PLACES] = {0};
+    uint64_t result = krakvinge_query(TREE, 0, 0, 8, 8, ids, room, ANSWER);
+    if (result != 0) {
+        printf("query: refused %" PRIu32 ", %" PRIu32 " wanted\n", KRAKVINGE_REFUSAL(result), KRAKVINGE_WANTED(result));
+        return;
+    }
+    printf("query: ids [");
+    for (uint32_t i = 0; i < answer[0]; i++)
+        printf("%s%" PRIu32, i == 0 ? "" : ", ", ids[i]);
+    printf("], %" PRIu32 " nodes opened\n", answer[1]);
+}
+
+int main(void) {
+    int32_t row[24] = {0};
+    uint32_t ids[PLACES] = {0};
+    uint64_t refused = krakvinge_make(TREE);
+    insert(1, 1, 1, 2, 2);
+    insert(2, 9, 1, 10, 2);
+    insert(3, 7, 7, 9, 9);
+    insert(4, 16, 16, 18, 18);
+    query(PLACES);
+    query(1);
+    refused |= krakvinge_leaves(TREE, row, WORDS(row), ANSWER);
+    printf("leaves: %" PRIu32 ", the first [%d, %d, %d, %d, %d, %d]\n", answer[0], row[0], row[1], row[2], row[3], row[4], row[5]);
+    refused |= krakvinge_all(TREE, ids, WORDS(ids), ANSWER);
+    printf("all: %" PRIu32 " ids\n", answer[0]);
+    refused |= krakvinge_remove(TREE, 3, 7, 7, 9, 9, ANSWER);
+    printf("remove 3: %s\n", answer[0] == 1 ? "true" : "false");
+    refused |= krakvinge_cleanup(TREE, ANSWER);
+    printf("cleanup: %s\n", answer[0] == 1 ? "true" : "false");
+    refused |= krakvinge_references(TREE, ANSWER);
+    printf("references: %" PRIu32 "\n", answer[0]);
+    printf("live: %" PRIu32 "\n", state[9]);
+    return refused == 0 ? 0 : 1;
+}

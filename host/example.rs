@@ -1,0 +1,39 @@
+// A worked example for a Rust host: a film of 16 by 16, three dots, a window, and what is refused.
+#[path = "rust/krakvinge.rs"]
+#[allow(dead_code)]
+mod krakvinge;
+
+use krakvinge::{Refused, Settings, Tree};
+
+fn run() -> Result<(), Refused> {
+    let settings = Settings { left: 0, top: 0, width: 16, height: 16, depth_limit: 2, leaf_limit: 2, smallest_cell: 1 };
+    let mut film = Tree::new(&settings, 4, 8)?;
+    for (id, rect) in [(1, [1, 1, 2, 2]), (2, [9, 1, 10, 2]), (3, [7, 7, 9, 9])] {
+        println!("insert {id}: {} splits", film.insert(id, rect)?);
+    }
+    if let Err(refused) = film.insert(4, [16, 16, 18, 18]) {
+        println!("insert 4: refused {}", refused.number);
+    }
+    let mut ids = [0; 8];
+    let listed = film.query([0, 0, 8, 8], &mut ids)?;
+    println!("query: ids {:?}, {} nodes opened", &ids[..listed.hits], listed.opened);
+    if let Err(refused) = film.query([0, 0, 8, 8], &mut ids[..1]) {
+        println!("query: refused {}, {} wanted", refused.number, refused.wanted);
+    }
+    let mut row = [0; 24];
+    let leaves = film.leaves(&mut row)?;
+    println!("leaves: {leaves}, the first {:?}", &row[..6]);
+    println!("all: {} ids", film.all(&mut ids)?.hits);
+    println!("remove 3: {}", film.remove(3, [7, 7, 9, 9])?);
+    println!("cleanup: {}", film.cleanup()?);
+    println!("references: {}", film.references()?);
+    println!("live: {}", film.live());
+    Ok(())
+}
+
+fn main() {
+    if let Err(refused) = run() {
+        println!("refused {}", refused.number);
+        std::process::exit(1);
+    }
+}

@@ -1,0 +1,203 @@
+//! Krakvinge for a Rust host: a tree that owns its rows, over the proved calls. Link target/staticlib/libhost.a (rt staticlib host).
+//! host/krakvinge.h says what each row holds and what each refusal means.
+
+pub type Rect = [i32; 4];
+
+#[derive(Clone, Copy, PartialEq, Eq, Debug)]
+pub struct Settings {
+    pub left: i32,
+    pub top: i32,
+    pub width: i32,
+    pub height: i32,
+    pub depth_limit: u32,
+    pub leaf_limit: u32,
+    pub smallest_cell: u32,
+}
+
+/// Why a call was turned down; `wanted` is how many answers there are, for refusal 8 alone.
+#[derive(Clone, Copy, PartialEq, Eq, Debug)]
+pub struct Refused {
+    pub number: u32,
+    pub wanted: u32,
+}
+
+/// What a query found: how many words of the row are ids, and the nodes opened.
+#[derive(Clone, Copy, PartialEq, Eq, Debug)]
+pub struct Listed {
+    pub hits: usize,
+    pub opened: u32,
+}
+
+/// The calls as the library exports them.
+#[rustfmt::skip]
+pub mod raw {
+    extern "C" {
+        pub fn krakvinge_make(s: *mut u32, sn: usize, n: *mut u32, nn: usize, d: *mut u32, dn: usize, r: *mut i32, rn: usize, m: *mut u8, mn: usize) -> u64;
+        pub fn krakvinge_insert(s: *mut u32, sn: usize, n: *mut u32, nn: usize, d: *mut u32, dn: usize, r: *mut i32, rn: usize, m: *mut u8, mn: usize, id: u32, x1: i32, y1: i32, x2: i32, y2: i32, a: *mut u32, an: usize) -> u64;
+        pub fn krakvinge_remove(s: *mut u32, sn: usize, n: *mut u32, nn: usize, d: *mut u32, dn: usize, r: *mut i32, rn: usize, m: *mut u8, mn: usize, id: u32, x1: i32, y1: i32, x2: i32, y2: i32, a: *mut u32, an: usize) -> u64;
+        pub fn krakvinge_cleanup(s: *mut u32, sn: usize, n: *mut u32, nn: usize, d: *const u32, dn: usize, r: *const i32, rn: usize, m: *mut u8, mn: usize, a: *mut u32, an: usize) -> u64;
+        pub fn krakvinge_query(s: *const u32, sn: usize, n: *const u32, nn: usize, d: *const u32, dn: usize, r: *const i32, rn: usize, m: *mut u8, mn: usize, x1: i32, y1: i32, x2: i32, y2: i32, i: *mut u32, il: usize, a: *mut u32, an: usize) -> u64;
+        pub fn krakvinge_all(s: *const u32, sn: usize, n: *const u32, nn: usize, d: *const u32, dn: usize, r: *const i32, rn: usize, m: *mut u8, mn: usize, i: *mut u32, il: usize, a: *mut u32, an: usize) -> u64;
+        pub fn krakvinge_leaves(s: *const u32, sn: usize, n: *const u32, nn: usize, d: *const u32, dn: usize, r: *const i32, rn: usize, m: *mut u8, mn: usize, w: *mut i32, wn: usize, a: *mut u32, an: usize) -> u64;
+        pub fn krakvinge_references(s: *const u32, sn: usize, n: *const u32, nn: usize, d: *const u32, dn: usize, r: *const i32, rn: usize, m: *mut u8, mn: usize, a: *mut u32, an: usize) -> u64;
+        pub fn krakvinge_check(s: *const u32, sn: usize, n: *const u32, nn: usize, d: *const u32, dn: usize, r: *const i32, rn: usize, m: *mut u8, mn: usize) -> u64;
+    }
+}
+
+/// The rows of a tree, of any lengths and contents: each call on them is defined and safe.
+#[derive(Clone, PartialEq, Eq, Debug)]
+pub struct Rows {
+    pub state: Vec<u32>,
+    pub nodes: Vec<u32>,
+    pub dots: Vec<u32>,
+    pub rects: Vec<i32>,
+    pub marks: Vec<u8>,
+}
+
+impl Rows {
+    pub fn new(s: &Settings, groups: usize, places: usize) -> Rows {
+        let root = [s.left as u32, s.top as u32, s.width as u32, s.height as u32];
+        let mut state = root.to_vec();
+        state.extend([s.depth_limit, s.leaf_limit, s.smallest_cell, 0, 0, 0]);
+        Rows { state, nodes: vec![0; 2 + 10 * groups], dots: vec![0; 2 * places], rects: vec![0; 4 * places], marks: vec![0; places + groups] }
+    }
+
+    pub fn make(&mut self) -> u64 {
+        let Rows { state: s, nodes: n, dots: d, rects: r, marks: m } = self;
+        unsafe { raw::krakvinge_make(s.as_mut_ptr(), s.len(), n.as_mut_ptr(), n.len(), d.as_mut_ptr(), d.len(), r.as_mut_ptr(), r.len(), m.as_mut_ptr(), m.len()) }
+    }
+
+    pub fn insert(&mut self, id: u32, [x1, y1, x2, y2]: Rect, a: &mut [u32]) -> u64 {
+        let Rows { state: s, nodes: n, dots: d, rects: r, marks: m } = self;
+        unsafe {
+            raw::krakvinge_insert(
+                s.as_mut_ptr(), s.len(), n.as_mut_ptr(), n.len(), d.as_mut_ptr(), d.len(), r.as_mut_ptr(), r.len(), m.as_mut_ptr(), m.len(),
+                id, x1, y1, x2, y2, a.as_mut_ptr(), a.len(),
+            )
+        }
+    }
+
+    pub fn remove(&mut self, id: u32, [x1, y1, x2, y2]: Rect, a: &mut [u32]) -> u64 {
+        let Rows { state: s, nodes: n, dots: d, rects: r, marks: m } = self;
+        unsafe {
+            raw::krakvinge_remove(
+                s.as_mut_ptr(), s.len(), n.as_mut_ptr(), n.len(), d.as_mut_ptr(), d.len(), r.as_mut_ptr(), r.len(), m.as_mut_ptr(), m.len(),
+                id, x1, y1, x2, y2, a.as_mut_ptr(), a.len(),
+            )
+        }
+    }
+
+    pub fn cleanup(&mut self, a: &mut [u32]) -> u64 {
+        let Rows { state: s, nodes: n, dots: d, rects: r, marks: m } = self;
+        unsafe { raw::krakvinge_cleanup(s.as_mut_ptr(), s.len(), n.as_mut_ptr(), n.len(), d.as_ptr(), d.len(), r.as_ptr(), r.len(), m.as_mut_ptr(), m.len(), a.as_mut_ptr(), a.len()) }
+    }
+
+    pub fn query(&mut self, [x1, y1, x2, y2]: Rect, ids: &mut [u32], a: &mut [u32]) -> u64 {
+        let Rows { state: s, nodes: n, dots: d, rects: r, marks: m } = self;
+        unsafe {
+            raw::krakvinge_query(
+                s.as_ptr(), s.len(), n.as_ptr(), n.len(), d.as_ptr(), d.len(), r.as_ptr(), r.len(), m.as_mut_ptr(), m.len(),
+                x1, y1, x2, y2, ids.as_mut_ptr(), ids.len(), a.as_mut_ptr(), a.len(),
+            )
+        }
+    }
+
+    pub fn all(&mut self, ids: &mut [u32], a: &mut [u32]) -> u64 {
+        let Rows { state: s, nodes: n, dots: d, rects: r, marks: m } = self;
+        unsafe {
+            raw::krakvinge_all(
+                s.as_ptr(), s.len(), n.as_ptr(), n.len(), d.as_ptr(), d.len(), r.as_ptr(), r.len(), m.as_mut_ptr(), m.len(),
+                ids.as_mut_ptr(), ids.len(), a.as_mut_ptr(), a.len(),
+            )
+        }
+    }
+
+    pub fn leaves(&mut self, row: &mut [i32], a: &mut [u32]) -> u64 {
+        let Rows { state: s, nodes: n, dots: d, rects: r, marks: m } = self;
+        unsafe {
+            raw::krakvinge_leaves(
+                s.as_ptr(), s.len(), n.as_ptr(), n.len(), d.as_ptr(), d.len(), r.as_ptr(), r.len(), m.as_mut_ptr(), m.len(),
+                row.as_mut_ptr(), row.len(), a.as_mut_ptr(), a.len(),
+            )
+        }
+    }
+
+    pub fn references(&mut self, a: &mut [u32]) -> u64 {
+        let Rows { state: s, nodes: n, dots: d, rects: r, marks: m } = self;
+        unsafe { raw::krakvinge_references(s.as_ptr(), s.len(), n.as_ptr(), n.len(), d.as_ptr(), d.len(), r.as_ptr(), r.len(), m.as_mut_ptr(), m.len(), a.as_mut_ptr(), a.len()) }
+    }
+
+    pub fn check(&mut self) -> u64 {
+        let Rows { state: s, nodes: n, dots: d, rects: r, marks: m } = self;
+        unsafe { raw::krakvinge_check(s.as_ptr(), s.len(), n.as_ptr(), n.len(), d.as_ptr(), d.len(), r.as_ptr(), r.len(), m.as_mut_ptr(), m.len()) }
+    }
+}
+
+/// A tree with room for a number of groups and of dots.
+pub struct Tree {
+    rows: Rows,
+    answer: [u32; 2],
+}
+
+impl Tree {
+    pub fn new(settings: &Settings, groups: usize, places: usize) -> Result<Tree, Refused> {
+        if groups > 16384 || places > 65536 {
+            return Err(Refused { number: 1, wanted: 0 });
+        }
+        let mut tree = Tree { rows: Rows::new(settings, groups, places), answer: [0, 0] };
+        let result = tree.rows.make();
+        tree.accepted(result)?;
+        Ok(tree)
+    }
+
+    /// The dots in the tree.
+    pub fn live(&self) -> u32 {
+        self.rows.state[9]
+    }
+
+    /// Answers the number of splits.
+    pub fn insert(&mut self, id: u32, rect: Rect) -> Result<u32, Refused> {
+        let result = self.rows.insert(id, rect, &mut self.answer);
+        Ok(self.accepted(result)?[0])
+    }
+
+    pub fn remove(&mut self, id: u32, rect: Rect) -> Result<bool, Refused> {
+        let result = self.rows.remove(id, rect, &mut self.answer);
+        Ok(self.accepted(result)?[0] == 1)
+    }
+
+    pub fn cleanup(&mut self) -> Result<bool, Refused> {
+        let result = self.rows.cleanup(&mut self.answer);
+        Ok(self.accepted(result)?[0] == 1)
+    }
+
+    pub fn query(&mut self, rect: Rect, ids: &mut [u32]) -> Result<Listed, Refused> {
+        let result = self.rows.query(rect, ids, &mut self.answer);
+        let [hits, opened] = self.accepted(result)?;
+        Ok(Listed { hits: hits as usize, opened })
+    }
+
+    pub fn all(&mut self, ids: &mut [u32]) -> Result<Listed, Refused> {
+        let result = self.rows.all(ids, &mut self.answer);
+        let [hits, opened] = self.accepted(result)?;
+        Ok(Listed { hits: hits as usize, opened })
+    }
+
+    /// Answers the number of leaves, six words each.
+    pub fn leaves(&mut self, row: &mut [i32]) -> Result<usize, Refused> {
+        let result = self.rows.leaves(row, &mut self.answer);
+        Ok(self.accepted(result)?[0] as usize)
+    }
+
+    pub fn references(&mut self) -> Result<u32, Refused> {
+        let result = self.rows.references(&mut self.answer);
+        Ok(self.accepted(result)?[0])
+    }
+
+    fn accepted(&self, result: u64) -> Result<[u32; 2], Refused> {
+        match result {
+            0 => Ok(self.answer),
+            _ => Err(Refused { number: (result % 256) as u32, wanted: (result / 256) as u32 }),
+        }
+    }
+}

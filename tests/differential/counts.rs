@@ -1,0 +1,95 @@
+// How often each kind of call ended how, each figure with its floor.
+use crate::calls::{Answer, Call, KINDS};
+
+#[derive(Clone, Copy, PartialEq)]
+enum Ended {
+    Accepted,
+    Refused(u64),
+    // A remove or cleanup that said so, a query that found something.
+    Yes,
+    Split,
+    SplitAgain,
+}
+
+use Ended::{Accepted, Refused, Split, SplitAgain, Yes};
+
+// Kind, how it ended, and of a million calls at least how many.
+const FLOORS: [(usize, Ended, u64); 20] = [
+    (0, Accepted, 100_000),
+    (0, Refused(4), 12_000),
+    (0, Refused(5), 20_000),
+    (0, Refused(6), 50_000),
+    (0, Refused(7), 15_000),
+    (0, Split, 6_000),
+    (0, SplitAgain, 500),
+    (1, Accepted, 150_000),
+    (1, Yes, 50_000),
+    (2, Accepted, 45_000),
+    (2, Yes, 1_500),
+    (3, Accepted, 60_000),
+    (3, Refused(8), 4_000),
+    (3, Yes, 30_000),
+    (4, Accepted, 7_000),
+    (4, Refused(8), 1_500),
+    (5, Accepted, 7_000),
+    (5, Refused(8), 1_500),
+    (5, Yes, 6_000),
+    (6, Accepted, 9_000),
+];
+// Below this many calls no floor is asked.
+const ENOUGH: u64 = 200_000;
+
+#[derive(Default)]
+pub struct Counts {
+    pub calls: u64,
+    figures: [u64; FLOORS.len()],
+}
+
+impl Ended {
+    fn is(self, answer: &Answer) -> bool {
+        let (accepted, number) = (answer.result == 0, answer.words[0]);
+        match self {
+            Accepted => accepted,
+            Refused(k) => answer.result % 256 == k,
+            Yes | Split => accepted && number > 0,
+            SplitAgain => accepted && number > 1,
+        }
+    }
+
+    fn text(self) -> String {
+        match self {
+            Accepted => "accepted".to_string(),
+            Refused(k) => format!("refused {k}"),
+            Yes => "yes".to_string(),
+            Split => "split".to_string(),
+            SplitAgain => "split more than once".to_string(),
+        }
+    }
+}
+
+impl Counts {
+    pub fn tell(&mut self, call: &Call, answer: &Answer) {
+        self.calls += 1;
+        for (i, (kind, ended, _)) in FLOORS.iter().enumerate() {
+            self.figures[i] += (*kind == call.kind() && ended.is(answer)) as u64;
+        }
+    }
+
+    fn floor(&self, i: usize) -> u64 {
+        if self.calls < ENOUGH { 0 } else { FLOORS[i].2 * self.calls / 1_000_000 }
+    }
+
+    // Each figure with its floor; whether all reach it.
+    pub fn print(&self) -> bool {
+        for (kind, name) in KINDS.iter().enumerate() {
+            let shown = (0..FLOORS.len()).filter(|i| FLOORS[*i].0 == kind);
+            let parts: Vec<String> = shown.map(|i| format!("{} {} (floor {})", FLOORS[i].1.text(), self.figures[i], self.floor(i))).collect();
+            println!("  {name}: {}", parts.join(", "));
+        }
+        let short = (0..FLOORS.len()).find(|i| self.figures[*i] < self.floor(*i));
+        if let Some(i) = short {
+            println!("differential: too few of a kind: {} {}", KINDS[FLOORS[i].0], FLOORS[i].1.text());
+        }
+        short.is_none()
+    }
+}

@@ -1,0 +1,91 @@
+// What every call turns down first: rows of another length (1), settings out of range (2), a memory that is no tree (3).
+// A refusal keeps state, nodes, dots and answers; 1 and 2 keep the marks too, 3 leaves them 0.
+use crate::calls::{Call, UNWRITTEN};
+use crate::krakvinge::Rows;
+use crate::random::{short, Random};
+
+const ROUNDS: u32 = 3_000;
+
+fn call(rows: &mut Rows, kind: usize, words: &mut [u32], ids: &mut [u32], numbers: &mut [i32]) -> u64 {
+    match kind {
+        0 => rows.insert(1, [1, 1, 2, 2], words),
+        1 => rows.remove(1, [1, 1, 2, 2], words),
+        2 => rows.cleanup(words),
+        3 => rows.query([0, 0, 9, 9], ids, words),
+        4 => rows.leaves(numbers, words),
+        5 => rows.all(ids, words),
+        _ => rows.references(words),
+    }
+}
+
+// One thing made wrong; the refusal that follows, and the length of the answer row.
+fn damage(random: &mut Random, rows: &mut Rows) -> (u64, usize) {
+    match random.below(14) {
+        0 => rows.state.truncate(random.below(10) as usize),
+        1 => rows.state.push(0),
+        2 => return (1, 0),
+        3 => return (1, 1),
+        4 => return (1, 3),
+        5 => rows.nodes.push(0),
+        6 => rows.dots.push(0),
+        7 => rows.rects.push(0),
+        8 => rows.marks.push(0),
+        9 => return out_of_range(rows, 4, 256),
+        10 => return out_of_range(rows, 5, 0),
+        11 => return out_of_range(rows, 2, u32::MAX),
+        12 => {
+            rows.state[9] += 1;
+            return (3, 2);
+        }
+        _ => {
+            rows.nodes[1] = rows.nodes[1].wrapping_add(1);
+            return (3, 2);
+        }
+    }
+    (1, 2)
+}
+
+fn out_of_range(rows: &mut Rows, at: usize, word: u32) -> (u64, usize) {
+    rows.state[at] = word;
+    (2, 2)
+}
+
+fn round(random: &mut Random, counts: &mut [u64; 4]) -> Result<(), String> {
+    let list = short(random);
+    let mut tree = Rows::new(&list.settings, list.groups, list.places);
+    tree.make();
+    for c in list.calls.iter().take(60) {
+        if let Call::Insert(id, rect) = c {
+            tree.insert(*id, *rect, &mut [0; 2]);
+        }
+    }
+    for kind in 0..7 {
+        let mut rows = tree.clone();
+        rows.marks.iter_mut().for_each(|m| *m = random.next() as u8);
+        let (refusal, words) = damage(random, &mut rows);
+        counts[refusal as usize] += 1;
+        let mut wanted = rows.clone();
+        if refusal == 3 {
+            wanted.marks.fill(0);
+        }
+        let (mut answer, mut ids, mut numbers) = (vec![UNWRITTEN; words], vec![UNWRITTEN; 64], vec![77; 600]);
+        let result = call(&mut rows, kind, &mut answer, &mut ids, &mut numbers);
+        let kept = answer.iter().chain(&ids).all(|w| *w == UNWRITTEN) && numbers.iter().all(|w| *w == 77);
+        if result != refusal || rows != wanted || !kept {
+            return Err(format!("call {kind} on {}: {result}, wanted {refusal}; rows kept: {}, answers kept: {kept}", list.head(), rows == wanted));
+        }
+    }
+    Ok(())
+}
+
+pub fn turned_down() -> bool {
+    let (mut random, mut counts) = (Random(5), [0; 4]);
+    for _ in 0..ROUNDS {
+        if let Err(text) = round(&mut random, &mut counts) {
+            println!("differential: DIFFERENCE from document 01: {text}");
+            return false;
+        }
+    }
+    println!("differential: calls turned down as document 01 says: {} refused 1, {} refused 2, {} refused 3", counts[1], counts[2], counts[3]);
+    counts[1..].iter().all(|n| *n > 1000)
+}

@@ -1,0 +1,172 @@
+// Holds the port against the original on lists of calls, through the host's interface.
+//     differential [CALLS [SEED]]     random and adversarial lists; prints the figures, and fails below their floors
+//     differential --faults           plants faults, and fails where one is not found
+//     differential --record           writes a fixed list with the original's answers
+//     differential --damaged          rows of wrong lengths, settings out of range and damaged trees, which every call turns down
+mod calls;
+mod compare;
+mod counts;
+mod damaged;
+mod faults;
+mod geometry;
+#[path = "../../host/rust/krakvinge.rs"]
+#[allow(dead_code)]
+mod krakvinge;
+mod original;
+mod port;
+mod random;
+
+pub mod intersections {
+    pub mod intersects_with;
+    pub use intersects_with::IntersectsWith;
+}
+
+// The original's files, with the accessors that the harness reads by.
+#[allow(dead_code)]
+pub mod quadtree {
+    pub mod aabb;
+    pub mod centered_aabb;
+    pub mod error;
+    pub mod free_list;
+    pub mod node;
+    pub mod node_data;
+    pub mod node_info;
+    pub mod node_list;
+    pub mod point;
+    pub mod quad_rect;
+    pub mod quadrants;
+    pub mod quadtree_element;
+    pub use aabb::AABB;
+    pub use point::Point;
+    pub mod quadtree {
+        include!("quadtree/quadtree.rs");
+
+        impl QuadTree<u32> {
+            pub fn node_number(&self) -> usize {
+                self.nodes.len()
+            }
+
+            pub fn words(&self, node: u32) -> [u32; 2] {
+                let node = &self.nodes[node as usize];
+                [node.first_child_or_element, node.element_count]
+            }
+
+            // The free groups' first nodes, head first.
+            pub fn free_groups(&self) -> Vec<u32> {
+                let (mut at, mut groups) = (self.free_node, vec![]);
+                while at != free_list::SENTINEL {
+                    groups.push(at);
+                    at = self.nodes[at as usize].first_child_or_element;
+                }
+                groups
+            }
+
+            // A leaf's dots, head first.
+            pub fn chain(&self, leaf: u32) -> Vec<(u32, [i32; 4])> {
+                let (mut at, mut chain) = (self.nodes[leaf as usize].first_child_or_element, vec![]);
+                while at != free_list::SENTINEL {
+                    let node = unsafe { *self.element_nodes.at(at) };
+                    let (id, rect) = unsafe { (*self.element_ids.at(node.element_idx), *self.element_rects.at(node.element_idx)) };
+                    chain.push((id, rect.into()));
+                    at = node.next;
+                }
+                chain
+            }
+        }
+    }
+}
+
+use calls::{Answer, Call, List};
+use counts::Counts;
+use faults::{Fault, FAULTS};
+use random::Random;
+
+const CALLS: u64 = 3_000_000;
+const SEED: u64 = 20_000;
+const LONG_EVERY: u64 = 500_000;
+const FAULT_LISTS: u32 = 3_000;
+
+fn compare_lists(calls: u64, seed: u64) -> bool {
+    let (mut random, mut counts, mut lists, mut long) = (Random(seed), Counts::default(), 0u64, 0u64);
+    while counts.calls < calls {
+        let list = if counts.calls >= long * LONG_EVERY { random::long(&mut random) } else { random::short(&mut random) };
+        let is_long = list.places > 1000;
+        long += is_long as u64;
+        lists += 1;
+        let difference = compare::differ(&list, Fault::None, if is_long { 400 } else { 8 }, |call, answer| counts.tell(call, answer));
+        if difference.is_some() {
+            println!("differential: DIFFERENCE, list {lists} of seed {seed}, made smaller:\n{}", compare::show(&list, Fault::None));
+            return false;
+        }
+    }
+    println!("differential: {} calls in {lists} lists, {long} of them with thousands of dots, no difference from the original (seed {seed})", counts.calls);
+    counts.print()
+}
+
+// Lists until one differs.
+fn find(fault: Fault) -> Option<(u32, List)> {
+    let mut random = Random(SEED);
+    (1..=FAULT_LISTS).map(|n| (n, random::short(&mut random))).find(|(_, list)| compare::differ(list, fault, 8, |_, _| {}).is_some())
+}
+
+fn find_faults() -> bool {
+    let mut found = 0;
+    for fault in FAULTS {
+        match find(fault) {
+            Some((lists, list)) => {
+                let (small, _) = compare::shrink(&list, fault);
+                println!("  {fault:?}: found by list {lists}, made smaller to {} calls", small.calls.len());
+                found += 1;
+            }
+            None => println!("  {fault:?}: NOT FOUND in {FAULT_LISTS} lists"),
+        }
+    }
+    println!("differential: {found} of {} planted faults found", FAULTS.len());
+    found == FAULTS.len()
+}
+
+// The words of an accepted answer, and those that it listed.
+fn recorded(call: &Call, answer: &Answer) -> String {
+    if answer.result != 0 {
+        return String::new();
+    }
+    let [first, second] = answer.words;
+    let listed = if matches!(call, Call::Leaves(_)) { 6 * first as usize } else { (first as usize).min(answer.row.len()) };
+    let row: String = answer.row[..listed].iter().map(|w| format!(" {w}")).collect();
+    format!(" {first} {second}{row}")
+}
+
+// Short lists in turn until the text is long enough.
+fn record() -> bool {
+    let mut random = Random(7);
+    let mut size = 0;
+    while size < 300_000 {
+        let mut list = random::short(&mut random);
+        list.calls.truncate(150);
+        let mut text = list.head() + "\n";
+        let difference = compare::differ(&list, Fault::None, 150, |call, answer| {
+            text += &format!("{call} = {}{}\n", answer.result, recorded(call, answer));
+        });
+        if difference.is_some() {
+            println!("{}", compare::show(&list, Fault::None));
+            return false;
+        }
+        size += text.len();
+        print!("{text}");
+    }
+    true
+}
+
+fn main() {
+    let args: Vec<String> = std::env::args().skip(1).collect();
+    let number = |i: usize, default: u64| args.get(i).map_or(default, |a| a.parse().expect("a number"));
+    let passed = match args.first().map(String::as_str) {
+        Some("--faults") => find_faults(),
+        Some("--record") => record(),
+        Some("--damaged") => damaged::turned_down(),
+        _ => compare_lists(number(0, CALLS), number(1, SEED)),
+    };
+    if !passed {
+        std::process::exit(1);
+    }
+}

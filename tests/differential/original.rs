@@ -1,0 +1,133 @@
+// The original's answers, in the interface's words. What it does not have comes from document 01's rules over its own tree.
+use crate::calls::{Answer, Call, List, Rect, Settings};
+use crate::geometry::{contains, is_refused_4, Cell};
+use crate::quadtree::quad_rect::QuadRect;
+use crate::quadtree::quadtree::{QuadTree, QuadTreeElement};
+use crate::quadtree::AABB;
+
+pub const NONE: u32 = u32::MAX;
+pub const BRANCH: u32 = u32::MAX;
+
+pub struct Original {
+    pub tree: QuadTree<u32>,
+    settings: Settings,
+    groups: usize,
+    places: usize,
+    live: usize,
+}
+
+impl Original {
+    pub fn new(list: &List) -> Original {
+        let s = list.settings;
+        let root = QuadRect::new(s.left, s.top, s.width, s.height);
+        let tree = QuadTree::new(root, s.depth_limit as u8, s.leaf_limit, s.smallest_cell);
+        Original { tree, settings: s, groups: list.groups, places: list.places, live: 0 }
+    }
+
+    pub fn live(&self) -> usize {
+        self.live
+    }
+
+    // The groups in use.
+    fn used(&self) -> usize {
+        (self.tree.node_number() - 1) / 5 - self.tree.free_groups().len()
+    }
+
+    // The group that the next split takes.
+    pub fn free_group(&self) -> u32 {
+        let next = self.tree.node_number();
+        match self.tree.free_groups().first() {
+            Some(group) => *group,
+            None if next < 1 + 5 * self.groups => next as u32,
+            None => NONE,
+        }
+    }
+
+    // Refusal 7: the splits that an insert would make, by the leaf that it routes to and the chain there.
+    fn splits_needed(&self, rect: Rect) -> usize {
+        let (mut cell, mut node) = (Cell::root(&self.settings), 0);
+        while self.tree.words(node)[1] == BRANCH {
+            let child = cell.route(rect);
+            node = self.tree.words(node)[0] + child;
+            cell = cell.child(child);
+        }
+        let mut chain: Vec<Rect> = self.tree.chain(node).into_iter().map(|(_, r)| r).collect();
+        let mut splits = 0;
+        while chain.len() as u64 >= self.settings.leaf_limit as u64 && cell.may_split(&self.settings) {
+            let child = cell.route(rect);
+            chain.retain(|r| cell.route(*r) == child);
+            cell = cell.child(child);
+            splits += 1;
+        }
+        splits
+    }
+
+    // The nodes that a query opens, root included.
+    fn opened(&self, rect: Rect) -> u32 {
+        let mut waiting = vec![(0, Cell::root(&self.settings))];
+        let mut opened = 0;
+        while let Some((node, cell)) = waiting.pop() {
+            opened += 1;
+            let [first, count] = self.tree.words(node);
+            if count == BRANCH {
+                waiting.extend((0..5).filter(|&i| cell.opens(rect, i)).map(|i| (first + i, cell.child(i))));
+            }
+        }
+        opened
+    }
+
+    fn insert(&mut self, id: u32, rect: Rect, call: &Call) -> Answer {
+        if is_refused_4(rect) {
+            return Answer::refused(4, call);
+        }
+        let element = QuadTreeElement::new(id, AABB::from(rect));
+        if !contains(&self.settings, rect) {
+            assert!(self.tree.insert(element).is_err(), "the original takes what document 01 refuses 5: {call}");
+            return Answer::refused(5, call);
+        }
+        if self.live == self.places {
+            return Answer::refused(6, call);
+        }
+        let (needed, used) = (self.splits_needed(rect), self.used());
+        if needed > self.groups - used {
+            return Answer::refused(7, call);
+        }
+        assert!(self.tree.insert(element).is_ok(), "the original refuses what document 01 takes: {call}");
+        self.live += 1;
+        Answer::accepted([(self.used() - used) as u32, 0])
+    }
+
+    fn query(&self, ids: Vec<u32>, rect: Rect, call: &Call) -> Answer {
+        let hits = ids.len() as u32;
+        Answer::listed(ids.into_iter().map(i64::from).collect(), [hits, self.opened(rect)], call)
+    }
+
+    fn leaves(&self, call: &Call) -> Answer {
+        let mut row = vec![];
+        self.tree.visit_leaves(|leaf| {
+            let c = leaf.nd.crect;
+            row.extend([c.center_x as i64, c.center_y as i64, c.half_width as i64, c.half_height as i64, leaf.depth() as i64, leaf.element_count as i64]);
+        });
+        let number = row.len() as u32 / 6;
+        Answer::listed(row, [number, 0], call)
+    }
+
+    pub fn answer(&mut self, call: &Call) -> Answer {
+        match *call {
+            Call::Insert(id, rect) => self.insert(id, rect, call),
+            Call::Remove(id, rect) => {
+                let yes = self.tree.remove(&QuadTreeElement::new(id, AABB::from(rect)));
+                self.live -= yes as usize;
+                Answer::accepted([yes as u32, 0])
+            }
+            Call::Cleanup => Answer::accepted([self.tree.cleanup() as u32, 0]),
+            Call::Query(rect, _) => self.query(self.tree.intersect_aabb(&AABB::from(rect)), rect, call),
+            Call::Leaves(_) => self.leaves(call),
+            Call::All(_) => {
+                let s = &self.settings;
+                self.query(self.tree.collect_ids(), [s.left, s.top, s.left + s.width, s.top + s.height], call)
+            }
+            Call::References => Answer::accepted([self.tree.count_element_references() as u32, 0]),
+        }
+    }
+}

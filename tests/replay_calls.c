@@ -1,0 +1,124 @@
+/* Replays recorded calls against the host's static library: replay_calls FILE. A line is 'tree', settings, groups and places, for a fresh tree;
+ * or a call, '=', its result and, where it was accepted, the two words of its answer and those that it listed. */
+#include "../host/krakvinge.h"
+#include <inttypes.h>
+#include <stdbool.h>
+#include <stdio.h>
+#include <stdlib.h>
+#include <string.h>
+
+#define GROUPS 64
+#define PLACES 64
+#define ROW 1024
+#define UNWRITTEN 77777
+
+/* A tree and the row that a call is lent. */
+static size_t groups, places;
+static uint32_t state[KRAKVINGE_STATE_WORDS];
+static uint32_t nodes[KRAKVINGE_NODE_WORDS(GROUPS)];
+static uint32_t dots[KRAKVINGE_DOT_WORDS(PLACES)];
+static int32_t rects[KRAKVINGE_RECT_WORDS(PLACES)];
+static uint8_t marks[KRAKVINGE_MARK_BYTES(GROUPS, PLACES)];
+static uint32_t answer[KRAKVINGE_ANSWER_WORDS];
+static uint32_t ids[ROW];
+static int32_t numbers[ROW];
+
+#define TREE \
+    state, KRAKVINGE_STATE_WORDS, nodes, KRAKVINGE_NODE_WORDS(groups), dots, KRAKVINGE_DOT_WORDS(places), rects, KRAKVINGE_RECT_WORDS(places), \
+        marks, KRAKVINGE_MARK_BYTES(groups, places)
+#define ANSWER answer, KRAKVINGE_ANSWER_WORDS
+#define RECT(n) (int32_t)(n)[0], (int32_t)(n)[1], (int32_t)(n)[2], (int32_t)(n)[3]
+
+static bool make(const long long *n, int count) {
+    if (count != 9 || n[7] < 0 || n[7] > GROUPS || n[8] < 0 || n[8] > PLACES)
+        return false;
+    for (int i = 0; i < 7; i++)
+        state[i] = (uint32_t)n[i];
+    groups = (size_t)n[7];
+    places = (size_t)n[8];
+    return krakvinge_make(TREE) == 0;
+}
+
+/* The words of the row that a call is lent, of a call that is lent one; a kind of another count of numbers is none. */
+static bool room_of(const char *kind, const long long *n, int count, size_t *room) {
+    bool lists = strcmp(kind, "all") == 0 || strcmp(kind, "leaves") == 0;
+    bool query = strcmp(kind, "query") == 0;
+    bool dot = strcmp(kind, "insert") == 0 || strcmp(kind, "remove") == 0;
+    bool plain = strcmp(kind, "cleanup") == 0 || strcmp(kind, "references") == 0;
+    *room = lists && count == 1 ? (size_t)n[0] : query && count == 5 ? (size_t)n[4] : 0;
+    return *room <= ROW && ((lists && count == 1) || (query && count == 5) || (dot && count == 5) || (plain && count == 0));
+}
+
+static uint64_t call(const char *kind, const long long *n, size_t room) {
+    if (strcmp(kind, "insert") == 0)
+        return krakvinge_insert(TREE, (uint32_t)n[0], RECT(n + 1), ANSWER);
+    if (strcmp(kind, "remove") == 0)
+        return krakvinge_remove(TREE, (uint32_t)n[0], RECT(n + 1), ANSWER);
+    if (strcmp(kind, "cleanup") == 0)
+        return krakvinge_cleanup(TREE, ANSWER);
+    if (strcmp(kind, "query") == 0)
+        return krakvinge_query(TREE, RECT(n), ids, room, ANSWER);
+    if (strcmp(kind, "all") == 0)
+        return krakvinge_all(TREE, ids, room, ANSWER);
+    if (strcmp(kind, "leaves") == 0)
+        return krakvinge_leaves(TREE, numbers, room, ANSWER);
+    return krakvinge_references(TREE, ANSWER);
+}
+
+/* The library's answer, as the recorded one is written; NULL for a call of no known kind. */
+static const char *replay(const char *kind, const long long *n, int count) {
+    static char text[16 * ROW];
+    size_t room;
+    if (!room_of(kind, n, count, &room))
+        return NULL;
+    for (size_t i = 0; i < ROW; i++) {
+        ids[i] = UNWRITTEN;
+        numbers[i] = UNWRITTEN;
+    }
+    uint64_t result = call(kind, n, room);
+    int at = sprintf(text, "%" PRIu64, result);
+    if (result == 0)
+        at += sprintf(text + at, " %" PRIu32 " %" PRIu32, answer[0], answer[1]);
+    bool leaves = strcmp(kind, "leaves") == 0;
+    size_t listed = result != 0 || room == 0 ? 0 : answer[0] * (leaves ? 6u : 1u);
+    for (size_t i = 0; i < listed && i < room; i++)
+        at += leaves ? sprintf(text + at, " %" PRId32, numbers[i]) : sprintf(text + at, " %" PRIu32, ids[i]);
+    for (size_t i = listed; i < ROW; i++)
+        if (ids[i] != UNWRITTEN || numbers[i] != UNWRITTEN)
+            return "a word past the row's answers";
+    return text;
+}
+
+int main(int argc, char **argv) {
+    static char line[16 * ROW];
+    FILE *file = argc == 2 ? fopen(argv[1], "r") : NULL;
+    unsigned long at = 0, trees = 0, replayed = 0;
+    while (file != NULL && fgets(line, sizeof line, file) != NULL) {
+        char *save = NULL, *theirs = strstr(line, " = ");
+        long long n[9];
+        int count = 0;
+        at++;
+        line[strcspn(line, "\n")] = '\0';
+        if (line[0] == '#')
+            continue;
+        if (theirs != NULL)
+            *theirs = '\0';
+        char *kind = strtok_r(line, " ", &save);
+        for (char *word; kind != NULL && count < 9 && (word = strtok_r(NULL, " ", &save)) != NULL; count++)
+            n[count] = strtoll(word, NULL, 10);
+        bool tree = kind != NULL && theirs == NULL && strcmp(kind, "tree") == 0 && make(n, count);
+        const char *ours = kind != NULL && theirs != NULL ? replay(kind, n, count) : NULL;
+        if (!tree && ours == NULL) {
+            printf("replay: line %lu is no tree and no call with an answer\n", at);
+            return 1;
+        }
+        if (ours != NULL && strcmp(ours, theirs + 3) != 0) {
+            printf("replay: DIFFERENCE at line %lu: recorded %s, the library answers %s\n", at, theirs + 3, ours);
+            return 1;
+        }
+        trees += tree;
+        replayed += !tree;
+    }
+    printf("replay: %lu recorded calls on %lu trees, no difference\n", replayed, trees);
+    return replayed == 0;
+}
