@@ -47,11 +47,6 @@ pub chain-cut : (m : Mem) (h : ℕ) (xs ys : List Placed) (f : ℕ) → Chained 
 chain-cut m h [] ys f s = (h, refl, s)
 chain-cut m h (d ∷ xs) ys f s = let r = chain-cut m (m .next (d .place)) xs ys f (s .2) in (r .0, (s .0, s .1, r .1), r .2)
 
--- a segment determines where it ends
-pub chain-end : (m : Mem) (h : ℕ) (xs : List Placed) (e f : ℕ) → Chained m h xs e → Chained m h xs f → e ≡ f
-chain-end m h [] e f a b = sym a ∙ b
-chain-end m h (d ∷ xs) e f a b = chain-end m (m .next (d .place)) xs e f (a .2) (b .2)
-
 -- ---- the three changes of a chain
 
 -- push: the place of d holds it, with the old head as its next; nothing else of the chain changes

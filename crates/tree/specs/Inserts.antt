@@ -34,11 +34,6 @@ module _ (u : Tree) where
   sub-put (leaf c) (i ∷ p) r = absurd r
   sub-put (branch g f) (i ∷ p) r = ap (λ (x : Tree). sub x p) (changed-same f i (put (f i) p u)) ∙ sub-put (f i) p (r .1)
 
-  pub node-put : (a : ℕ) (t : Tree) (p : List ℕ) → Reach t p → nodeAt a (put t p u) p ≡ nodeAt a t p
-  node-put a t [] r = refl
-  node-put a (leaf c) (i ∷ p) r = absurd r
-  node-put a (branch g f) (i ∷ p) r = ap (λ (x : Tree). nodeAt (childNode g i) x p) (changed-same f i (put (f i) p u)) ∙ node-put (childNode g i) (f i) p (r .1)
-
   pub reach-put : (t : Tree) (p : List ℕ) → Reach t p → Reach (put t p u) p
   reach-put t [] r = tt
   reach-put (leaf c) (i ∷ p) r = absurd r

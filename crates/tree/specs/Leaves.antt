@@ -35,12 +35,12 @@ use Rattle.tree.specs.Chains.{Standing, chained-standing}
 -- ---- of a stored tree
 
 module _ (G N : ℕ) (nodes dots : List ℕ) (rects : List ℤ) (groupHead placeHead : ℕ) (t : Tree) (free spare : List ℕ)
-    (S : Stored G N (read nodes dots rects) groupHead placeHead t free spare) (nodesFit : length nodes ≡ 2 + 10 * G) where
+    (stored : Stored G N (read nodes dots rects) groupHead placeHead t free spare) (nodesFit : length nodes ≡ 2 + 10 * G) where
   pub group-inside : (g : ℕ) → 1 ≤ groupCount g t + sumOver (indicator g) free → g < G
-  group-inside g c = byDec (decLt g G) (λ l. l) (λ l. absurd (omega (arith, S .groupsOnce g, below-no g G (omega arith))))
+  group-inside g c = byDec (decLt g G) (λ l. l) (λ l. absurd (omega (arith, stored .groupsOnce g, below-no g G (omega arith))))
 
   pub place-inside : (k : ℕ) → 1 ≤ placeCount k t → k < N
-  place-inside k c = byDec (decLt k N) (λ l. l) (λ l. absurd (omega (arith, S .placesOnce k, below-no k N (omega arith))))
+  place-inside k c = byDec (decLt k N) (λ l. l) (λ l. absurd (omega (arith, stored .placesOnce k, below-no k N (omega arith))))
 
   node-inside : (b : ℕ) → 1 ≤ nodeCount b 0 t → HasNode nodes b
   node-inside b c =
@@ -64,7 +64,7 @@ module _ (G N : ℕ) (nodes dots : List ℕ) (rects : List ℤ) (groupHead place
     leaf-sum k = omega (arith, sumDots-sub k t path children, ap (sumDots k) e)
 
     leaf-stored : Represents (read nodes dots rects) (nodeAt 0 t path) (leaf chain)
-    leaf-stored = subst (λ (u : Tree). Represents (read nodes dots rects) (nodeAt 0 t path) u) e (tree-sub (read nodes dots rects) 0 t path children (S .tree))
+    leaf-stored = subst (λ (u : Tree). Represents (read nodes dots rects) (nodeAt 0 t path) u) e (tree-sub (read nodes dots rects) 0 t path children (stored .tree))
 
     pub leaf-count : countAt nodes (nodeAt 0 t path) ≡ length chain
     leaf-count = leaf-stored .0

@@ -1,7 +1,8 @@
 -- What the single operations, which make no check, ask and leave.
 --     IsTree       the words are those of a tree, whatever the marks
 --     CarriedOut   what an operation that follows a rule leaves
---     kept-exit, shaped-exit       the two ways to it: the words are as they were; they hold the rule's shape
+--     refused-exit, shaped-exit    the two ways to it: a refusal keeps the words; an answer's words hold the rule's shape
+--     same-marks   the marks don't matter
 use mathlib.Core.Path.{_≡_, ap, sym, _∙_}
 use mathlib.Core.List.{List, []}
 use Prim.Native.Nat.{ℕ}

@@ -1,6 +1,6 @@
 -- A subtree at the end of a path, and its replacement.
 --     sub, nodeAt, put     the subtree, its node, the tree with another one there
---     sumDots-put, sumGroups-put, sumNodes-put     what that does to every weight
+--     sumDots-put, sumGroups-put   what that does to every weight
 --     tree-put     THE UPDATE LAW of the memory
 --     nodes-groups         a node stands in the tree as often as its group
 use mathlib.Core.Path.{_≡_, ap, sym, _∙_, subst}
@@ -47,13 +47,6 @@ sumGroups-put h t [] u k = omega arith
 sumGroups-put h (leaf c) (i ∷ p) u k = omega arith
 sumGroups-put h (branch g f) (i ∷ p) u k =
     omega (arith, sumGroups-put h (f i) p u (k .1), sumBelow-changed 5 (λ j x. sumGroups h x) f i (put (f i) p u) (k .0))
-
-pub sumNodes-put : (h : ℕ → ℕ) (a : ℕ) (t : Tree) (p : List ℕ) (u : Tree) → Children p
-    → sumNodes h a (put t p u) + sumNodes h (nodeAt a t p) (sub t p) ≡ sumNodes h a t + sumNodes h (nodeAt a t p) u
-sumNodes-put h a t [] u k = omega arith
-sumNodes-put h a (leaf c) (i ∷ p) u k = omega arith
-sumNodes-put h a (branch g f) (i ∷ p) u k =
-    omega (arith, sumNodes-put h (childNode g i) (f i) p u (k .1), sumBelow-changed 5 (λ j x. sumNodes h (childNode g j) x) f i (put (f i) p u) (k .0))
 
 pub sumDots-sub : (h : Placed → ℕ) (t : Tree) (p : List ℕ) → Children p → sumDots h (sub t p) ≤ sumDots h t
 sumDots-sub h t [] k = omega arith

@@ -2,7 +2,9 @@
 --     leafFor, chainFor, pathTo    the leaf's node with its node data, its chain, the path to it
 --     Guided       the nodes lead through the tree
 --     remove-path, says-path, place-path   a remove, told by the leaf alone
---     holds-guided         the nodes of a world that holds a shape lead through its tree
+--     holds-guided, holds-way      the nodes of a world that holds a shape lead through its tree
+--     Way, LeadsTo         what the walk down asks, and the leaf that it tells
+--     stepsLeft    how far a leaf can be; OnWay, way-facts, way-on, arrived: the walk's invariant, a turn, its end
 use mathlib.Core.Path.{_≡_, refl, ap, sym, _∙_, subst}
 use mathlib.Core.List.{List, [], _∷_}
 use mathlib.Core.Bool.{true, false, cond}

@@ -3,6 +3,7 @@ ghost use Prim.Native.Nat.{_*_, _≤_};
 ghost use Rattle.tree_check.specs.Trees.{memoryOf, TreeReady, TreeScanned, GroupReady, GroupScanned, Sound};
 use crate::chain::check_chain;
 use crate::free::group_at;
+use crate::free::is_empty;
 use crate::region::Gate;
 use crate::region::Region;
 use memory::words::node_at;
@@ -53,7 +54,7 @@ pub fn check_node(
     }
 }
 
-// The same of the first `left` children of a group, whose parent stands in the region.
+// The same of the first `left` children of a group, whose parent stands in the region. An empty leaf has nothing to check.
 fn check_group(
     nodes: &[u32],
     dots: &[u32],
@@ -72,17 +73,22 @@ fn check_group(
         return true;
     }
     let child = left - 1;
+    let node = 1 + 5 * group + (child as usize);
+    if is_empty(nodes, node) {
+        return check_group(
+            nodes,
+            dots,
+            rects,
+            marks,
+            places,
+            groups,
+            region,
+            group,
+            child,
+        );
+    }
     let below = region.below(child);
-    if check_node(
-        nodes,
-        dots,
-        rects,
-        marks,
-        places,
-        groups,
-        below,
-        1 + 5 * group + (child as usize),
-    ) {
+    if check_node(nodes, dots, rects, marks, places, groups, below, node) {
         check_group(
             nodes,
             dots,

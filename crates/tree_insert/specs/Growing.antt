@@ -114,27 +114,27 @@ unfolding childData
 child-in n i r = child-range (n .cell) i r
 
 module _ (x : Shape) (dot : Dot) (placeHead : ℕ) (nodes dots : List ℕ) (rects : List ℤ) (groupHead node : ℕ) (n : NodeData) (left : ℕ)
-    (G : Going x dot placeHead nodes dots rects groupHead node n left) (some : 1 ≤ left) where
-  musts : Must (x .settings) (G .levels) n (dot .rect) (G .chain) (G .free) left
-  musts = must (x .settings) (G .levels) n (dot .rect) (G .chain) (G .free) left (G .rest) some (G .enough)
+    (now : Going x dot placeHead nodes dots rects groupHead node n left) (some : 1 ≤ left) where
+  musts : Must (x .settings) (now .levels) n (dot .rect) (now .chain) (now .free) left
+  musts = must (x .settings) (now .levels) n (dot .rect) (now .chain) (now .free) left (now .rest) some (now .enough)
 
-  stored-group : Stored (x .groups) (x .places) (read nodes dots rects) groupHead placeHead (G .tree) (musts .group ∷ musts .others) (x .freePlaces)
-  stored-group = subst (λ (f : List ℕ). Stored (x .groups) (x .places) (read nodes dots rects) groupHead placeHead (G .tree) f (x .freePlaces)) (musts .taken) (G .stored)
+  stored-group : Stored (x .groups) (x .places) (read nodes dots rects) groupHead placeHead (now .tree) (musts .group ∷ musts .others) (x .freePlaces)
+  stored-group = subst (λ (f : List ℕ). Stored (x .groups) (x .places) (read nodes dots rects) groupHead placeHead (now .tree) f (x .freePlaces)) (musts .taken) (now .stored)
 
-  at-children : Children (G .path)
-  at-children = reach-children (G .tree) (G .path) (G .reach)
+  at-children : Children (now .path)
+  at-children = reach-children (now .tree) (now .path) (now .reach)
 
-  splits : (s : Splittable nodes dots rects node groupHead) × (s .group ≡ musts .group) × (s .chain ≡ G .chain)
+  splits : (s : Splittable nodes dots rects node groupHead) × (s .group ≡ musts .group) × (s .chain ≡ now .chain)
   splits =
-      subst (λ (b : ℕ). (s : Splittable nodes dots rects b groupHead) × (s .group ≡ musts .group) × (s .chain ≡ G .chain)) (G .at)
-      (stored-splittable (x .groups) (x .places) nodes dots rects groupHead placeHead (G .tree) (musts .group) (musts .others) (x .freePlaces) stored-group (G .nodesFit) (G .dotsFit) (G .rectsFit)
-      (G .path) (G .chain) at-children (G .here) (G .short))
+      subst (λ (b : ℕ). (s : Splittable nodes dots rects b groupHead) × (s .group ≡ musts .group) × (s .chain ≡ now .chain)) (now .at)
+      (stored-splittable (x .groups) (x .places) nodes dots rects groupHead placeHead (now .tree) (musts .group) (musts .others) (x .freePlaces) stored-group (now .nodesFit) (now .dotsFit) (now .rectsFit)
+      (now .path) (now .chain) at-children (now .here) (now .short))
 
   pub go-splits : Splittable nodes dots rects node groupHead
   go-splits = splits .0
 
   pub go-depth : n .depth < 255
-  go-depth = omega (arith, may-splits (x .settings) n (must-may (x .settings) n (G .chain) (musts .must)) .above, accepted (x .settings) (G .settings) .depth)
+  go-depth = omega (arith, may-splits (x .settings) n (must-may (x .settings) n (now .chain) (musts .must)) .above, accepted (x .settings) (now .settings) .depth)
 
   -- after the split, at the child
   pub go-on : (nodes′ dots′ : List ℕ) (next child : ℕ) (n′ : NodeData) → length nodes′ ≡ length nodes → length dots′ ≡ length dots
@@ -142,22 +142,21 @@ module _ (x : Shape) (dot : Dot) (placeHead : ℕ) (nodes dots : List ℕ) (rect
       → Going x dot placeHead nodes′ dots′ rects next (groupHead + child) n′ (left - 1)
   unfolding go-splits
   go-on nodes′ dots′ next child n′ ln ld words en ec e′ =
-      let S = x .settings in
       let d = placedIn dot x in
       let g = musts .group in
       let fs = musts .others in
-      let t = G .tree in
-      let p = G .path in
-      let ds = G .chain in
+      let t = now .tree in
+      let p = now .path in
+      let ds = now .chain in
       let i = route n (dot .rect) in
       let u = splitTree n g ds in
       let t₁ = put t p u in
-      let r₁ = reach-put u t p (G .reach) in
-      let e₁ : sub t₁ p ≡ u = sub-put u t p (G .reach) in
+      let r₁ = reach-put u t p (now .reach) in
+      let e₁ : sub t₁ p ≡ u = sub-put u t p (now .reach) in
       let known : childData n i ≡ n′ = ap (childData n) (sym ec) ∙ sym e′ in
       let head : groupHead ≡ childNode g 0 = stored-group .groups .0 in
       let same : splitWords n (read nodes dots rects) (paths.nodeAt 0 t p) g ds ≡ read nodes′ dots′ rects =
-      (λ k. splitWords n (read nodes dots rects) (G .at k) (sym (splits .1) k) (sym (splits .2) k)) ∙ sym words in
+      (λ k. splitWords n (read nodes dots rects) (now .at k) (sym (splits .1) k) (sym (splits .2) k)) ∙ sym words in
       let first : firstAt nodes (childNode g 0) ≡ next = ap (firstAt nodes) (sym head) ∙ sym en in
       record {
         tree = t₁;
@@ -165,23 +164,23 @@ module _ (x : Shape) (dot : Dot) (placeHead : ℕ) (nodes dots : List ℕ) (rect
         free = fs;
         chain = deal n (λ j. []) ds i;
         levels = musts .below;
-        settings = G .settings;
-        nodesFit = ln ∙ G .nodesFit;
-        dotsFit = ld ∙ G .dotsFit;
-        rectsFit = G .rectsFit;
+        settings = now .settings;
+        nodesFit = ln ∙ now .nodesFit;
+        dotsFit = ld ∙ now .dotsFit;
+        rectsFit = now .rectsFit;
         reach = reach-snoc g (dealt n ds) i t₁ p (route-child n (dot .rect)) r₁ e₁;
         here = sub-snoc g (dealt n ds) i t₁ p r₁ e₁;
         at = node-snoc g (dealt n ds) i 0 t₁ p r₁ e₁ ∙ omega arith;
         stored =
             subst (λ (m : Mem). Stored (x .groups) (x .places) m next placeHead t₁ fs (x .freePlaces)) same
             (subst (λ (h : ℕ). Stored (x .groups) (x .places) (splitWords n (read nodes dots rects) (paths.nodeAt 0 t p) g ds) h placeHead t₁ fs (x .freePlaces)) first
-            (split-holds n (x .groups) (x .places) (read nodes dots rects) groupHead placeHead t g fs (x .freePlaces) p ds at-children (G .here) stored-group));
-        rest = ap (λ (y : NodeData). splitCount S (musts .below) y (dot .rect) (dealt n ds i)) (sym known) ∙ musts .next;
-        enough = omega (arith, G .enough, ap length (musts .taken));
-        short = omega (arith, dealt-length n ds i (route-child n (dot .rect)), G .short);
-        range = subst (λ (y : NodeData). InRange (y .cell)) known (child-in n i (G .range));
+            (split-holds n (x .groups) (x .places) (read nodes dots rects) groupHead placeHead t g fs (x .freePlaces) p ds at-children (now .here) stored-group));
+        rest = ap (λ (y : NodeData). splitCount (x .settings) (musts .below) y (dot .rect) (dealt n ds i)) (sym known) ∙ musts .next;
+        enough = omega (arith, now .enough, ap length (musts .taken));
+        short = omega (arith, dealt-length n ds i (route-child n (dot .rect)), now .short);
+        range = subst (λ (y : NodeData). InRange (y .cell)) known (child-in n i (now .range));
         ends =
-            ap (λ (y : NodeData). Left S d (musts .below) y t₁ (p ++ i ∷ []) fs) (sym known)
-            ∙ sym (turn-split S d (musts .below) n t p g fs ds (G .reach) (G .here) (musts .must) ∙ turn-down S d (musts .below) n t₁ p fs g (dealt n ds) r₁ e₁)
-            ∙ (λ k. Left S d (sym (musts .level) k) n t p (sym (musts .taken) k)) ∙ G .ends;
+            ap (λ (y : NodeData). Left (x .settings) d (musts .below) y t₁ (p ++ i ∷ []) fs) (sym known)
+            ∙ sym (turn-split (x .settings) d (musts .below) n t p g fs ds (now .reach) (now .here) (musts .must) ∙ turn-down (x .settings) d (musts .below) n t₁ p fs g (dealt n ds) r₁ e₁)
+            ∙ (λ k. Left (x .settings) d (sym (musts .level) k) n t p (sym (musts .taken) k)) ∙ now .ends;
       }

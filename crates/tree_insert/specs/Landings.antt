@@ -79,12 +79,12 @@ pub record Lands (nodes dots : List ℕ) (rects : List ℤ) (a p : ℕ) : Type 0
   pub count : countAt nodes a < 4294967295
 
 module _ (x : Shape) (dot : Dot) (placeHead : ℕ) (nodes dots : List ℕ) (rects : List ℤ) (groupHead node : ℕ) (n : NodeData)
-    (G : Going x dot placeHead nodes dots rects groupHead node n 0) (room : 1 ≤ length (x .freePlaces)) where
+    (now : Going x dot placeHead nodes dots rects groupHead node n 0) (room : 1 ≤ length (x .freePlaces)) where
   abbrev spare : List ℕ
   spare = tailOf (x .freePlaces)
 
-  with-head : Stored (x .groups) (x .places) (read nodes dots rects) groupHead placeHead (G .tree) (G .free) (headOf (x .freePlaces) ∷ spare)
-  with-head = subst (λ (ps : List ℕ). Stored (x .groups) (x .places) (read nodes dots rects) groupHead placeHead (G .tree) (G .free) ps) (head-tail (x .freePlaces) room) (G .stored)
+  with-head : Stored (x .groups) (x .places) (read nodes dots rects) groupHead placeHead (now .tree) (now .free) (headOf (x .freePlaces) ∷ spare)
+  with-head = subst (λ (ps : List ℕ). Stored (x .groups) (x .places) (read nodes dots rects) groupHead placeHead (now .tree) (now .free) ps) (head-tail (x .freePlaces) room) (now .stored)
 
   head-is : placeHead ≡ headOf (x .freePlaces)
   head-is = with-head .places .0
@@ -97,27 +97,27 @@ module _ (x : Shape) (dot : Dot) (placeHead : ℕ) (nodes dots : List ℕ) (rect
 
   pub land-asks : Lands nodes dots rects node placeHead
   land-asks =
-      let children = reach-children (G .tree) (G .path) (G .reach) in
+      let children = reach-children (now .tree) (now .path) (now .reach) in
       record {
-        node = subst (HasNode nodes) (G .at) (leaf-inside (x .groups) (x .places) nodes dots rects groupHead placeHead (G .tree) (G .free) (x .freePlaces) (G .stored) (G .nodesFit) (G .path) (G .chain) children (G .here));
-        place = omega (arith, place-inside, G .dotsFit);
-        rect = omega (arith, place-inside, G .rectsFit);
+        node = subst (HasNode nodes) (now .at) (leaf-inside (x .groups) (x .places) nodes dots rects groupHead placeHead (now .tree) (now .free) (x .freePlaces) (now .stored) (now .nodesFit) (now .path) (now .chain) children (now .here));
+        place = omega (arith, place-inside, now .dotsFit);
+        rect = omega (arith, place-inside, now .rectsFit);
         count =
             omega (
               arith,
-              leaf-count (x .groups) (x .places) nodes dots rects groupHead placeHead (G .tree) (G .free) (x .freePlaces) (G .stored) (G .nodesFit) (G .path) (G .chain) children (G .here),
-              ap (countAt nodes) (G .at),
-              G .short,
+              leaf-count (x .groups) (x .places) nodes dots rects groupHead placeHead (now .tree) (now .free) (x .freePlaces) (now .stored) (now .nodesFit) (now .path) (now .chain) children (now .here),
+              ap (countAt nodes) (now .at),
+              now .short,
             );
       }
 
   -- the tree and the free groups are those of the insert
-  lands : record { tree = put (G .tree) (G .path) (leaf (placedIn dot x ∷ G .chain)); free = G .free } ≡ ended (grownBy dot x (x .freeGroups))
+  lands : record { tree = put (now .tree) (now .path) (leaf (placedIn dot x ∷ now .chain)); free = now .free } ≡ ended (grownBy dot x (x .freeGroups))
   lands =
       let d = placedIn dot x in
-      let at : Grown → Ended = λ y. record { tree = put (G .tree) (G .path) (y .tree); free = y .free } in
-      sym (ap at (insert-here (x .settings) (G .levels) n d (G .chain) (G .free) (G .rest)))
-      ∙ sym (ap (λ (u : Tree). at (insertAt (x .settings) (G .levels) n d u (G .free))) (G .here)) ∙ G .ends
+      let at : Grown → Ended = λ y. record { tree = put (now .tree) (now .path) (y .tree); free = y .free } in
+      sym (ap at (insert-here (x .settings) (now .levels) n d (now .chain) (now .free) (now .rest)))
+      ∙ sym (ap (λ (u : Tree). at (insertAt (x .settings) (now .levels) n d u (now .free))) (now .here)) ∙ now .ends
 
   land-stored : let grown = grownBy dot x (x .freeGroups) in
       Stored (x .groups) (x .places) (read (pushedNodes nodes node placeHead) (pushedDots nodes dots node placeHead dot) (pushedRects rects placeHead dot)) groupHead (nextAt dots placeHead)
@@ -126,15 +126,15 @@ module _ (x : Shape) (dot : Dot) (placeHead : ℕ) (nodes dots : List ℕ) (rect
       let d = placedIn dot x in
       let a = land-asks in
       let m = read nodes dots rects in
-      let words : pushWords m (paths.nodeAt 0 (G .tree) (G .path)) d
+      let words : pushWords m (paths.nodeAt 0 (now .tree) (now .path)) d
       ≡ read (pushedNodes nodes node placeHead) (pushedDots nodes dots node placeHead dot) (pushedRects rects placeHead dot) =
-      (λ i. pushWords m (G .at i) (record { place = sym head-is i; dot = dot })) ∙ sym (pushed-read nodes dots rects node placeHead dot (a .node) (a .place) (a .rect)) in
-      let pushed = push-holds (x .groups) (x .places) m groupHead placeHead (G .tree) (G .free) spare (G .path) (G .chain) d (reach-children (G .tree) (G .path) (G .reach)) (G .here) with-head in
+      (λ i. pushWords m (now .at i) (record { place = sym head-is i; dot = dot })) ∙ sym (pushed-read nodes dots rects node placeHead dot (a .node) (a .place) (a .rect)) in
+      let pushed = push-holds (x .groups) (x .places) m groupHead placeHead (now .tree) (now .free) spare (now .path) (now .chain) d (reach-children (now .tree) (now .path) (now .reach)) (now .here) with-head in
       let after = read (pushedNodes nodes node placeHead) (pushedDots nodes dots node placeHead dot) (pushedRects rects placeHead dot) in
-      let tree = put (G .tree) (G .path) (leaf (d ∷ G .chain)) in
+      let tree = put (now .tree) (now .path) (leaf (d ∷ now .chain)) in
       subst (λ (e : Ended). Stored (x .groups) (x .places) after groupHead (nextAt dots placeHead) (e .tree) (e .free) spare) lands
-      (subst (λ (y : Mem). Stored (x .groups) (x .places) y groupHead (nextAt dots placeHead) tree (G .free) spare) words
-      (subst (λ (k : ℕ). Stored (x .groups) (x .places) (pushWords m (paths.nodeAt 0 (G .tree) (G .path)) d) groupHead (nextAt dots k) tree (G .free) spare) (sym head-is) pushed))
+      (subst (λ (y : Mem). Stored (x .groups) (x .places) y groupHead (nextAt dots placeHead) tree (now .free) spare) words
+      (subst (λ (k : ℕ). Stored (x .groups) (x .places) (pushWords m (paths.nodeAt 0 (now .tree) (now .path)) d) groupHead (nextAt dots k) tree (now .free) spare) (sym head-is) pushed))
 
 -- ---- an insert that is not refused
 
@@ -153,12 +153,12 @@ pub record CanInsert (s : State) (dot : Dot) (nodes dots : List ℕ) (rects : Li
 
 pub starts-going : (s : State) (dot : Dot) (nodes dots : List ℕ) (rects : List ℤ) (l : Leaf) (splits : ℕ) (marks : List ℕ) (x : Shape) → Starts s dot nodes dots rects l splits marks x
     → Going x dot (s .«free_place») nodes dots rects (s .«free_group») (l .node) (l .«node_data») splits
-starts-going s dot nodes dots rects l splits marks x S = go-start s nodes dots rects marks x (S .holds) dot l (S .leads) splits (S .needed) (S .enough)
+starts-going s dot nodes dots rects l splits marks x begun = go-start s nodes dots rects marks x (begun .holds) dot l (begun .leads) splits (begun .needed) (begun .enough)
 
 pub starts-live : (s : State) (dot : Dot) (nodes dots : List ℕ) (rects : List ℤ) (l : Leaf) (splits : ℕ) (marks : List ℕ) (x : Shape) → Starts s dot nodes dots rects l splits marks x
     → s .live ≤ 65536
-starts-live s dot nodes dots rects l splits marks x S =
-    omega (arith, holds-represented (world s nodes dots rects marks) x (S .holds) .live, live-and-free x (S .holds .valid), S .holds .valid .placesFit)
+starts-live s dot nodes dots rects l splits marks x begun =
+    omega (arith, holds-represented (world s nodes dots rects marks) x (begun .holds) .live, live-and-free x (begun .holds .valid), begun .holds .valid .placesFit)
 
 pub inserted-holds : (s : State) (dot : Dot) (nodes dots : List ℕ) (rects : List ℤ) (l : Leaf) (splits : ℕ) (marks : List ℕ) (x : Shape) → Starts s dot nodes dots rects l splits marks x
     → (nodes₁ dots₁ : List ℕ) (groupHead node : ℕ) (n : NodeData) → Going x dot (s .«free_place») nodes₁ dots₁ rects groupHead node n 0
@@ -166,20 +166,20 @@ pub inserted-holds : (s : State) (dot : Dot) (nodes dots : List ℕ) (rects : Li
     let s′ : State = record { settings = s .settings; «free_group» = groupHead; «free_place» = nextAt dots₁ p; live = s .live + 1 } in
     Holds (world s′ (pushedNodes nodes₁ node p) (pushedDots nodes₁ dots₁ node p dot) (pushedRects rects p dot) (replicate (length marks) 0)) (inserted dot x)
 unfolding inserted
-inserted-holds s dot nodes dots rects l splits marks x S nodes₁ dots₁ groupHead node n G =
-    let rep = holds-represented (world s nodes dots rects marks) x (S .holds) in
-    let v = S .holds .valid in
+inserted-holds s dot nodes dots rects l splits marks x begun nodes₁ dots₁ groupHead node n now =
+    let rep = holds-represented (world s nodes dots rects marks) x (begun .holds) in
+    let v = begun .holds .valid in
     let p = s .«free_place» in
-    stored-holds _ (inserted dot x) (inserted-valid dot x v (S .fits) (S .room) (omega (arith, S .needed, S .enough)))
+    stored-holds _ (inserted dot x) (inserted-valid dot x v (begun .fits) (begun .room) (omega (arith, begun .needed, begun .enough)))
     (record {
-      nodes = node-length nodes₁ node (record { first = p; count = countAt nodes₁ node + 1 }) ∙ G .nodesFit;
-      dots = next-length (setIdAt dots₁ p (dot .id)) p (firstAt nodes₁ node) ∙ id-length dots₁ p (dot .id) ∙ G .dotsFit;
-      rects = rect-length rects p (dot .rect) ∙ G .rectsFit;
+      nodes = node-length nodes₁ node (record { first = p; count = countAt nodes₁ node + 1 }) ∙ now .nodesFit;
+      dots = next-length (setIdAt dots₁ p (dot .id)) p (firstAt nodes₁ node) ∙ id-length dots₁ p (dot .id) ∙ now .dotsFit;
+      rects = rect-length rects p (dot .rect) ∙ now .rectsFit;
       marks = length-replicate (length marks) 0 ∙ rep .marks;
       settings = rep .settings;
       live = omega (arith, rep .live, insert-sum (x .settings) (λ d. 1) (D (x .settings)) (root x) (placedIn dot x) (x .tree) (x .freeGroups) (valid-height x v));
     })
-    (land-stored x dot p nodes₁ dots₁ rects groupHead node n G (S .room))
+    (land-stored x dot p nodes₁ dots₁ rects groupHead node n now (begun .room))
 
 -- the same, of the values that the code has
 pub landed-holds : (s : State) (dot : Dot) (nodes dots : List ℕ) (rects : List ℤ) (l : Leaf) (splits : ℕ) (marks : List ℕ) (x : Shape) → Starts s dot nodes dots rects l splits marks x
@@ -187,10 +187,10 @@ pub landed-holds : (s : State) (dot : Dot) (nodes dots : List ℕ) (rects : List
     → (next : ℕ) (nodes′ dots′ : List ℕ) (rects′ : List ℤ) → let p = s .«free_place» in
     next ≡ nextAt dots₁ p → nodes′ ≡ pushedNodes nodes₁ node p → dots′ ≡ pushedDots nodes₁ dots₁ node p dot → rects′ ≡ pushedRects rects p dot
     → Holds (world (record { settings = s .settings; «free_group» = groupHead; «free_place» = next; live = s .live + 1 }) nodes′ dots′ rects′ (replicate (length marks) 0)) (inserted dot x)
-landed-holds s dot nodes dots rects l splits marks x S nodes₁ dots₁ groupHead node n G next nodes′ dots′ rects′ ex en ed er =
+landed-holds s dot nodes dots rects l splits marks x begun nodes₁ dots₁ groupHead node n now next nodes′ dots′ rects′ ex en ed er =
     let zeros : List ℕ = replicate (length marks) 0 in
     let after : ℕ → State = λ k. record { settings = s .settings; «free_group» = groupHead; «free_place» = k; live = s .live + 1 } in
     let p = s .«free_place» in
     let same : world (after (nextAt dots₁ p)) (pushedNodes nodes₁ node p) (pushedDots nodes₁ dots₁ node p dot) (pushedRects rects p dot) zeros ≡ world (after next) nodes′ dots′ rects′ zeros =
     λ i. world (after (sym ex i)) (sym en i) (sym ed i) (sym er i) zeros in
-    subst (λ (v : World). Holds v (inserted dot x)) same (inserted-holds s dot nodes dots rects l splits marks x S nodes₁ dots₁ groupHead node n G)
+    subst (λ (v : World). Holds v (inserted dot x)) same (inserted-holds s dot nodes dots rects l splits marks x begun nodes₁ dots₁ groupHead node n now)

@@ -4,7 +4,7 @@
 use mathlib.Core.Path.{_≡_, refl, ap, sym, _∙_}
 use mathlib.Core.List.{List, []}
 use mathlib.Core.Bool.{true, false, not, _||_}
-use Prim.Native.Nat.{ℕ, _/_, _≤_}
+use Prim.Native.Nat.{ℕ, _+_, _/_, _≤_, _<_}
 use native.Mathlib.Decide.{decLe}
 use native.Mathlib.Omega.{arith}
 use lib.IntN.{ℤ}
@@ -42,7 +42,7 @@ pub record Not5 (s : State) (dot : Dot) : Type 0 where
 pub record Not6 (s : State) (dots : List ℕ) (dot : Dot) : Type 0 where
   pub near : inverted (dot .rect) || farOut (dot .rect) ≡ false
   pub inside : contains (rootOf (s .settings)) (dot .rect) ≡ true
-  pub room : ¬ (s .live ≡ length dots / 2)
+  pub room : s .live + 1 ≤ length dots / 2
 
 module _ (s : State) (nodes dots : List ℕ) (rects : List ℤ) (dot : Dot) (marks : List ℕ) (x : Shape) (h : Holds (world s nodes dots rects marks) x) where
   abbrev Refused : ℕ → Type 0
@@ -54,8 +54,8 @@ module _ (s : State) (nodes dots : List ℕ) (rects : List ℤ) (dot : Dot) (mar
   live-is : (s .live ≡ size (x .tree)) × (length dots / 2 ≡ x .places)
   live-is = let rep = holds-represented (world s nodes dots rects marks) x h in (rep .live, omega (arith, rep .dots))
 
-  room-is : ¬ (s .live ≡ length dots / 2) → eqb (size (x .tree)) (x .places) ≡ false
-  room-is ne = ne-eqb (size (x .tree)) (x .places) (λ e. ne (live-is .0 ∙ e ∙ sym (live-is .1)))
+  room-is : s .live + 1 ≤ length dots / 2 → eqb (size (x .tree)) (x .places) ≡ false
+  room-is r = ne-eqb (size (x .tree)) (x .places) (λ e. omega (arith, live-is .0, live-is .1))
 
   pub refuse-4 : inverted (dot .rect) || farOut (dot .rect) ≡ true → Refused 4
   unfolding insertRule
@@ -65,11 +65,11 @@ module _ (s : State) (nodes dots : List ℕ) (rects : List ℤ) (dot : Dot) (mar
   unfolding insertRule
   refuse-5 p e = refused-exit s nodes dots rects marks (insertRule dot x) 5 (rw (p .near, contains-same ∙ e) refl)
 
-  pub refuse-6 : Not5 s dot → s .live ≡ length dots / 2 → Refused 6
+  pub refuse-6 : Not5 s dot → length dots / 2 < s .live + 1 → Refused 6
   unfolding insertRule
   refuse-6 p e =
       refused-exit s nodes dots rects marks (insertRule dot x) 6
-      (rw (p .near, contains-same ∙ p .inside, eq-eqb (size (x .tree)) (x .places) (sym (live-is .0) ∙ e ∙ live-is .1)) refl)
+      (rw (p .near, contains-same ∙ p .inside, eq-eqb (size (x .tree)) (x .places) (omega (arith, live-is .0, live-is .1, live-and-free x (h .valid)))) refl)
 
   pub refuse-7 : Not6 s dots dot → (splits : ℕ) → splits ≡ splitsNeeded dot x → leb splits (length (x .freeGroups)) ≡ false → Refused 7
   unfolding insertRule
@@ -90,7 +90,7 @@ module _ (s : State) (nodes dots : List ℕ) (rects : List ℤ) (dot : Dot) (mar
           fits = rw (p .near, contains-same ∙ p .inside) refl;
           room =
               byDec (decLe 1 (length (x .freePlaces))) (λ r. r)
-              (λ n. absurd (p .room (omega (arith, live-is .0, live-is .1, live-and-free x (h .valid)))));
+              (λ n. absurd (omega (arith, p .room, live-is .0, live-is .1, live-and-free x (h .valid))));
           needed = needed;
           enough = enough;
         }

@@ -114,20 +114,20 @@ pub stored-splittable : (G N : ℕ) (nodes dots : List ℕ) (rects : List ℤ) (
     → Stored G N (read nodes dots rects) groupHead placeHead t (g ∷ free) spare
     → length nodes ≡ 2 + 10 * G → length dots ≡ 2 * N → length rects ≡ 4 * N → (path : List ℕ) (chain : List Placed) → Children path → sub t path ≡ leaf chain → length chain ≤ 65536
     → (s : Splittable nodes dots rects (paths.nodeAt 0 t path) groupHead) × (s .group ≡ g) × (s .chain ≡ chain)
-stored-splittable G N nodes dots rects groupHead placeHead t g free spare S nodesFit dotsFit rectsFit path chain children e short =
+stored-splittable G N nodes dots rects groupHead placeHead t g free spare stored nodesFit dotsFit rectsFit path chain children e short =
     let b = paths.nodeAt 0 t path in
-    let f = S .groups in
-    let inside = group-inside G N nodes dots rects groupHead placeHead t (g ∷ free) spare S nodesFit in
-    let notG : groupCount g t ≡ 0 = omega (arith, S .groupsOnce g, below-le g G, indicator-same g) in
-    let count = leaf-count G N nodes dots rects groupHead placeHead t (g ∷ free) spare S nodesFit path chain children e in
+    let f = stored .groups in
+    let inside = group-inside G N nodes dots rects groupHead placeHead t (g ∷ free) spare stored nodesFit in
+    let notG : groupCount g t ≡ 0 = omega (arith, stored .groupsOnce g, below-le g G, indicator-same g) in
+    let count = leaf-count G N nodes dots rects groupHead placeHead t (g ∷ free) spare stored nodesFit path chain children e in
     let inN : 1 ≤ nodeCount b 0 t = omega (arith, sumNodes-sub (indicator b) 0 t path children, ap (sumNodes (indicator b) b) e, indicator-same b) in (
       record {
         group = g;
         starts = f .0;
         chain = chain;
-        standing = leaf-standing G N nodes dots rects groupHead placeHead t (g ∷ free) spare S nodesFit path chain children e dotsFit rectsFit;
-        once = λ k. omega (arith, S .placesOnce k, below-le k N, sumDots-sub (atPlace k) t path children, ap (sumDots (atPlace k)) e);
-        here = leaf-inside G N nodes dots rects groupHead placeHead t (g ∷ free) spare S nodesFit path chain children e;
+        standing = leaf-standing G N nodes dots rects groupHead placeHead t (g ∷ free) spare stored nodesFit path chain children e dotsFit rectsFit;
+        once = λ k. omega (arith, stored .placesOnce k, below-le k N, sumDots-sub (atPlace k) t path children, ap (sumDots (atPlace k)) e);
+        here = leaf-inside G N nodes dots rects groupHead placeHead t (g ∷ free) spare stored nodesFit path chain children e;
         nodesIn = omega (arith, f .0, inside g (omega (arith, indicator-same g)));
         apart = λ j l z. node-not-free t b g j l notG inN (omega (arith, f .0));
         empty = λ j l.

@@ -10,8 +10,8 @@ ghost use Rattle.tree.specs.Operations.{IsTree, CarriedOut};
 ghost use Rattle.tree_insert.specs.Answers.{insertedState, insertedReply};
 ghost use Rattle.tree_insert.specs.Landings.{Lands, Starts, CanInsert, pushedNodes, pushedDots, pushedRects};
 
-pub mod needed;
-pub mod split;
+mod needed;
+mod split;
 
 use crate::needed::has_free;
 use crate::needed::splits_needed;
@@ -60,19 +60,14 @@ fn insert_at(
     requires { ⌜ CanInsert state dot (now nodes) (now dots) (now rects) leaf splits ⌝ }
     ensures { λ r. ⌜ ((marks : List ℕ) (x : Shape) → Starts state dot (now (nodes .entry)) (now (dots .entry)) (now (rects .entry)) leaf splits marks x → Holds (world r (now (nodes .exit)) (now (dots .exit)) (now (rects .exit)) (replicate (length marks) 0)) (inserted dot x)) ⌝ }
 {
-    let settings = state.settings;
     let place = state.free_place;
     let reached = split_down(nodes, dots, rects, leaf, state.free_group, splits, dot.rect);
     let next = next_at(dots, place as usize);
     push_dot(nodes, dots, rects, reached.node, place, dot);
-    State {
-        settings,
-        free_group: reached.group,
-        free_place: next,
-        live: state.live + 1,
-    }
+    state.changed(reached.group, next, state.live + 1)
 }
 
+// Inserts a dot: refusals 4 to 7 store nothing, and the answer is the number of splits.
 pub fn insert_dot(
     state: State,
     dot: Dot,
@@ -91,7 +86,9 @@ pub fn insert_dot(
     if !settings.root().contains(rect) {
         return Inserted::Refused(5);
     }
-    if state.live as usize == dots.len() / 2 {
+    // The live dots, with this one.
+    let live = state.live as usize + 1;
+    if dots.len() / 2 < live {
         return Inserted::Refused(6);
     }
     let leaf = find_leaf(settings, nodes, rect);

@@ -118,15 +118,15 @@ pub fn split_down(
     let mut node = leaf.node;
     let mut node_data = leaf.node_data;
     let mut head = group;
-    let mut left = splits;
-    while left > 0 {
+    let mut rest = splits;
+    while rest > 0 {
         let cell = node_data.cell;
         let next = split_leaf(nodes, dots, rects, node, cell, head);
         let child = cell.route(rect);
         node = head as usize + child as usize;
         node_data = node_data.child(child);
         head = next;
-        left -= 1;
+        rest -= 1;
     }
     Reached { node, group: head }
 }

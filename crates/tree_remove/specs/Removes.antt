@@ -222,26 +222,26 @@ module _ (s : State) (nodes dots : List ℕ) (rects : List ℤ) (marks : List �
 
   -- ---- the shape after the stores
 
-  abbrev Left : Hit → Mem → Type 0
-  Left hit m = Stored (x .groups) (x .places) m (s .«free_group») (hit .place) (removeAt id r (root x) (x .tree)) (x .freeGroups) (removePlace id r (root x) (x .tree) ∷ x .freePlaces)
+  abbrev StoredWithout : Hit → Mem → Type 0
+  StoredWithout hit m = Stored (x .groups) (x .places) m (s .«free_group») (hit .place) (removeAt id r (root x) (x .tree)) (x .freeGroups) (removePlace id r (root x) (x .tree) ∷ x .freePlaces)
 
   -- the chain without the dot, and its place at the head of the free places, by the stores that make the memory m
   left-by : (hit : Hit) (out : List Placed) (m : Mem) → firstOut id chain₀ ≡ out → firstPlace id chain₀ ≡ hit .place → m ≡ after hit
       → Stored (x .groups) (x .places) m (s .«free_group») (hit .place) (put (x .tree) path₀ (leaf out)) (x .freeGroups) (hit .place ∷ x .freePlaces)
-      → Left hit (after hit)
+      → StoredWithout hit (after hit)
   left-by hit out m o p same stored =
       let tree : put (x .tree) path₀ (leaf out) ≡ removeAt id r (root x) (x .tree) =
       sym (remove-path r id (root x) (x .tree) ∙ ap (λ (l : List Placed). put (x .tree) path₀ (leaf l)) o) in
       let place : hit .place ≡ removePlace id r (root x) (x .tree) = sym (place-path r id (root x) (x .tree) ∙ p) in
-      subst (λ (y : Mem). Left hit y) same
+      subst (λ (y : Mem). StoredWithout hit y) same
       (subst (λ (u : Tree). Stored (x .groups) (x .places) m (s .«free_group») (hit .place) u (x .freeGroups) (removePlace id r (root x) (x .tree) ∷ x .freePlaces)) tree
       (subst (λ (k : ℕ). Stored (x .groups) (x .places) m (s .«free_group») (hit .place) (put (x .tree) path₀ (leaf out)) (x .freeGroups) (k ∷ x .freePlaces)) place stored))
 
-  left-stored : (hit : Hit) → Found id chain₀ hit → Left hit (after hit)
+  left-stored : (hit : Hit) → Found id chain₀ hit → StoredWithout hit (after hit)
   left-stored hit (atHead d ys c o p e) =
       let hit₀ : Hit = record { place = d .place; previous = none } in
       let t = takeable hit₀ (atHead d ys c o p refl) in
-      subst (λ (y : Hit). Left y (after y)) (sym e)
+      subst (λ (y : Hit). StoredWithout y (after y)) (sym e)
       (left-by hit₀ ys (popWords (memory w₀) (paths.nodeAt 0 (x .tree) path₀) (d .place) (s .«free_place»)) o p
       (ap (λ (a : ℕ). popWords (memory w₀) a (d .place) (s .«free_place»)) (path-node r (root x) 0 (x .tree)) ∙ sym (head-read (d .place) (t .place) (t .rect)))
       (pop-holds (x .groups) (x .places) (memory w₀) (s .«free_group») (s .«free_place») (x .tree) (x .freeGroups) (x .freePlaces) path₀ d ys
@@ -250,7 +250,7 @@ module _ (s : State) (nodes dots : List ℕ) (rects : List ℤ) (marks : List �
       let hit₀ : Hit = record { place = d .place; previous = q .place } in
       let t = takeable hit₀ (behind xs q d ys c o p refl) in
       let ne = not-none (q .place) (omega (arith, ap (sumOver (atPlace (q .place))) c, sumOver-append (atPlace (q .place)) xs (q ∷ d ∷ ys), indicator-same (q .place))) in
-      subst (λ (y : Hit). Left y (after y)) (sym e)
+      subst (λ (y : Hit). StoredWithout y (after y)) (sym e)
       (left-by hit₀ (xs ++ q ∷ ys) (dropWords (memory w₀) (paths.nodeAt 0 (x .tree) path₀) (q .place) (d .place) (s .«free_place»)) o p
       (ap (λ (a : ℕ). dropWords (memory w₀) a (q .place) (d .place) (s .«free_place»)) (path-node r (root x) 0 (x .tree))
       ∙ sym (behind-read (d .place) (q .place) ne (t .place) (t .rect) (t .previous ne)))

@@ -102,6 +102,7 @@ fn free_place(dots: &mut [u32], rects: &mut [i32], place: usize, head: u32)
     set_next(dots, place, head);
 }
 
+// Removes the first dot with an id in the leaf that a rectangle routes to; the dot's own rectangle isn't compared.
 pub fn remove_dot(
     state: State,
     id: u32,
@@ -123,10 +124,5 @@ pub fn remove_dot(
     let place = hit.place;
     unlink(nodes, dots, node, leaf, hit);
     free_place(dots, rects, place as usize, state.free_place);
-    Removed::Yes(State {
-        settings,
-        free_group: state.free_group,
-        free_place: place,
-        live: state.live - 1,
-    })
+    Removed::Yes(state.changed(state.free_group, place, state.live - 1))
 }

@@ -7,7 +7,7 @@ use native.Mathlib.Omega.{arith}
 use lib.IntN.{ℤ}
 use Rattle.model.specs.declared.State.{State}
 use Rattle.model.specs.Shapes.{references}
-use Rattle.model.specs.Layout.{world, layout, cleared}
+use Rattle.model.specs.Layout.{world, cleared}
 use Rattle.model.specs.Calls.{refused, answered, exit, References, referencesRule}
 use Rattle.model.specs.Laws.Memory.{holds-represented}
 use Rattle.tree_check.specs.Checks.{Checked}

@@ -10,7 +10,7 @@ use mathlib.Core.Path.{_≡_, refl, ap, ap₂, sym, _∙_, subst, fun-ext}
 use mathlib.Core.Logic.{_≢_, _⊎_, ⊎-elim}
 use mathlib.Core.List.{List, [], _∷_, map}
 use mathlib.Core.Bool.{Bool, true, false, _&&_}
-use Prim.Native.Nat.{ℕ, _+_, suc, _-_, _≤_, _<_}
+use Prim.Native.Nat.{ℕ, _+_, suc, _≤_, _<_}
 use native.Mathlib.Nat.{suc-inj}
 use native.Mathlib.Decide.{decLt}
 use native.Mathlib.Omega.{arith}
@@ -23,7 +23,7 @@ use Rattle.model.specs.Shapes.{Shape, Valid, WellFormed}
 use Rattle.model.specs.Layout.{World, none, branchMark, blank, layout, cleared, lengthsRight, Holds}
 use Rattle.model.specs.Laws.Shapes.{below-no, live-and-free}
 use Rattle.model.specs.Memory.{Mem, memory, Chained, Represents, FreeGroups}
-use Rattle.geometry.specs.Settings.{rootOf, inRange}
+use Rattle.geometry.specs.Settings.{inRange}
 use Rattle.model.specs.Calls.{Reply, refused, tooMany, refusal, Verdict, refuse, overflow, accept, Exit, exit, carriedOut, Obeys}
 use Rattle.model.specs.Laws.Memory.{holds-represented}
 

@@ -5,9 +5,9 @@
 --     by-length, by-settings, by-told      the three ways through the check
 --     tree-yes, tree-no, free-yes, free-no, chain-yes, chain-no    a part's answer, read off its Bool
 use mathlib.Core.Path.{_≡_, refl, ap, sym, _∙_, subst}
-use mathlib.Core.Logic.{_⊎_, inl, inr}
+use mathlib.Core.Logic.{inl, inr}
 use mathlib.Core.List.{List, map}
-use mathlib.Core.Bool.{Bool, true, false, cond}
+use mathlib.Core.Bool.{Bool, true, false}
 use Prim.Native.Nat.{ℕ, _+_, _-_, _/_, _≤_, _<_}
 use native.Mathlib.Omega.{arith}
 use lib.IntN.{ℤ}
@@ -16,7 +16,7 @@ use Rattle.arithmetic.specs.Tests.{true-false}
 use Rattle.geometry.specs.Settings.{inRange}
 use Rattle.model.specs.declared.Dot.{Dot}
 use Rattle.model.specs.declared.State.{State}
-use Rattle.model.specs.Layout.{world, blank, lengthsRight, cleared, Holds}
+use Rattle.model.specs.Layout.{world, blank, lengthsRight, cleared}
 use Rattle.model.specs.Memory.{Mem}
 use Rattle.memory.specs.Laws.Lengths.{lengths-same, lengths-stated}
 use Rattle.tree_check.specs.declared.region.Region.{Region}
@@ -27,7 +27,7 @@ use Rattle.tree_check.specs.Frees.{nodeMemory, FreeReady, FreeFound, Fre
 use Rattle.tree_check.specs.Trees.{memoryOf, TreeReady, TreeFound, TreeScanned}
 use Rattle.tree_check.specs.Checks.{CheckReady, Told, answerOf, Checked}
 use Rattle.tree_check.specs.Laws.Marks.{zero-at}
-use Rattle.tree_check.specs.Laws.Shapes.{FoundTree, FoundGroups, found-holds, live-fits, tree-good, groups-good, places-good, all-one}
+use Rattle.tree_check.specs.Laws.Shapes.{found-holds, live-fits, tree-good, groups-good, places-good, all-one}
 
 -- ---- a part's answer
 

@@ -5,17 +5,16 @@
 use mathlib.Core.Path.{_≡_, refl, ap, sym, _∙_, subst}
 use mathlib.Core.List.{List, []}
 use mathlib.Core.Bool.{Bool, true, false}
-use Prim.Native.Nat.{ℕ, zero, suc, _+_, _-_, _≤_, _<_}
+use Prim.Native.Nat.{ℕ, zero, suc, _+_, _-_}
 use native.Mathlib.Nat.{not-suc-le-zero}
 use native.Mathlib.Omega.{arith}
-use lib.ListN.{getD}
 use Rattle.model.specs.Sums.{sumBelow, sumBelow-ext, changed, changed-same, changed-other, changed-all}
 use Rattle.model.specs.Trees.{Tree, leaf, childNode, placeCount, groupCount}
 use Rattle.model.specs.Memory.{Mem, Represents}
 use Rattle.model.specs.Laws.Pattern.{one-tree}
 use Rattle.tree_check.specs.declared.region.Region.{Region}
 use Rattle.tree_check.specs.Regions.{regionBelow}
-use Rattle.tree_check.specs.Marks.{Once, Added, MarksReady}
+use Rattle.tree_check.specs.Marks.{Once, MarksReady}
 use Rattle.tree_check.specs.Laws.Marks.{once-rest, once-whole, added-whole}
 use Rattle.tree_check.specs.Trees.{Fine, TreeGood, TreeFound, TreeScanned, GroupGood, GroupFound, GroupScanned}
 use Rattle.tree_check.specs.Laws.Trees.{fine-told}

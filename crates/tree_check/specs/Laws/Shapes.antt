@@ -3,8 +3,7 @@
 --     live-fits, tree-good, groups-good, places-good, all-one      what a memory that holds a shape shows to each part
 use mathlib.Core.Path.{_≡_, refl, ap, sym, _∙_, subst}
 use mathlib.Core.List.{List, [], _∷_, map}
-use mathlib.Core.Bool.{true}
-use Prim.Native.Nat.{ℕ, suc, _+_, _*_, _-_, _≤_, _<_}
+use Prim.Native.Nat.{ℕ, suc, _+_, _-_, _≤_, _<_}
 use native.Mathlib.Decide.{decLt}
 use native.Mathlib.Omega.{arith}
 use lib.IntN.{ℤ}
@@ -14,15 +13,14 @@ use Rattle.geometry.specs.Cells.{rootData}
 use Rattle.model.specs.declared.State.{State}
 use Rattle.model.specs.Sums.{indicator, sumOver, byDec}
 use Rattle.model.specs.Lists.{count}
-use Rattle.model.specs.Trees.{Placed, Tree, atPlace, placeCount, groupCount, size}
+use Rattle.model.specs.Trees.{Placed, atPlace, placeCount, groupCount, size}
 use Rattle.model.specs.Shapes.{Shape, Valid, WellFormed, below}
 use Rattle.model.specs.Layout.{World, world, none, branchMark, blank, Holds}
-use Rattle.model.specs.Memory.{Mem, memory, Chained, Represented}
+use Rattle.model.specs.Memory.{Mem, Chained, Represented}
 use Rattle.model.specs.Laws.Shapes.{below-yes, below-no, below-le, live-and-free, sumOver-map, distinct-length}
 use Rattle.model.specs.Laws.Memory.{holds-represented, represented-holds}
 use Rattle.model.specs.Laws.Pattern.{one-chain, one-tree, one-free, length-blank}
 use Rattle.tree_check.specs.Regions.{rootRegion, isBlank}
-use Rattle.tree_check.specs.Marks.{Once, Added}
 use Rattle.tree_check.specs.Chains.{placeMemory, ChainGood, ChainFound}
 use Rattle.tree_check.specs.Frees.{nodeMemory, FreeGood, FreeFound}
 use Rattle.tree_check.specs.Trees.{memoryOf, TreeGood, TreeFound}
@@ -43,13 +41,13 @@ module _ (s : State) (nodes dots : List ℕ) (rects : List ℤ) (marks : List �
   abbrev M : Mem
   M = memoryOf nodes dots rects
 
-  abbrev pub FoundTree : List ℕ → Type 0
+  abbrev FoundTree : List ℕ → Type 0
   FoundTree marks₁ = TreeFound (rootRegion (s .settings)) M marks places groups 0 marks₁
 
-  abbrev pub FoundGroups : List ℕ → List ℕ → Type 0
+  abbrev FoundGroups : List ℕ → List ℕ → Type 0
   FoundGroups marks₁ marks₂ = FreeFound (nodeMemory nodes) marks₁ places groups (s .«free_group») groups marks₂
 
-  abbrev pub FoundPlaces : List ℕ → List ℕ → Type 0
+  abbrev FoundPlaces : List ℕ → List ℕ → Type 0
   FoundPlaces marks₂ marks₃ = ChainFound isBlank (placeMemory dots rects) marks₂ places (s .«free_place») (places - s .live) marks₃
 
   -- ---- what was found

@@ -1,15 +1,16 @@
 -- The check of a node: a leaf by its chain, a branch by its group.
 --     fine-told        a fine tree is told by its words
 --     chain-ready, ready-again         what a chain, what the next walk is given
+--     empty-found      an empty leaf is good
 --     leaf-over        a leaf that may split has at most the leaf limit's dots
 --     leaf-scanned     a leaf's answer is its chain's
 --     no-split, no-group, seen-group   a branch is good no more
 --     branch-scanned   a branch's answer is its group's
 --     branch-count, leaf-count, group-read     a node's words, as the code reads them
-use mathlib.Core.Path.{_≡_, refl, ap, sym, _∙_, subst, subst₂}
+use mathlib.Core.Path.{_≡_, refl, ap, sym, _∙_, subst}
 use mathlib.Core.List.{List, []}
 use mathlib.Core.Bool.{Bool, true, false}
-use Prim.Native.Nat.{ℕ, _+_, _*_, _≤_, _<_}
+use Prim.Native.Nat.{ℕ, _+_, _≤_, _<_}
 use native.Mathlib.Decide.{decLt}
 use native.Mathlib.Omega.{arith}
 use lib.IntN.{ℤ}
@@ -19,20 +20,21 @@ use borrow.Author.Tests.{eqb-true, eqb-false}
 use Rattle.arithmetic.specs.Tests.{true-false}
 use Rattle.geometry.specs.Cells.{maySplit}
 use Rattle.model.specs.declared.Dot.{Dot}
-use Rattle.model.specs.Sums.{indicator, indicator-same, sumBelow, byDec}
-use Rattle.model.specs.Trees.{Placed, Tree, leaf, branch, childNode, placeCount, groupCount}
-use Rattle.model.specs.Layout.{none, branchMark}
-use Rattle.model.specs.Memory.{Mem, firstAt, countAt, nextAt, dotAt, Represents}
+use Rattle.model.specs.Sums.{indicator-same, sumBelow, byDec}
+use Rattle.model.specs.Trees.{Placed, Tree, leaf, branch, childNode, groupCount}
+use Rattle.model.specs.Layout.{branchMark}
+use Rattle.model.specs.Memory.{Mem, firstAt, countAt}
 use Rattle.model.specs.Laws.Pattern.{Told}
 use Rattle.memory.specs.declared.node.Node.{Node}
 use Rattle.memory.specs.Nodes.{nodeAt}
 use Rattle.tree_check.specs.declared.region.Region.{Region}
 use Rattle.tree_check.specs.Regions.{fits, regionBelow}
-use Rattle.tree_check.specs.Marks.{placeMark, groupMark, Once, Added, MarksReady}
+use Rattle.tree_check.specs.Marks.{groupMark, MarksReady}
 use Rattle.tree_check.specs.Laws.Marks.{group-added, marks-ready, places-kept, once-one, once-rest, once-whole, added-whole}
 use Rattle.tree_check.specs.Chains.{placeMemory, ChainReady, ChainGood, ChainFound, ChainScanned}
 use Rattle.tree_check.specs.Laws.Chains.{chain-nodes}
-use Rattle.tree_check.specs.Frees.{GroupAt}
+use Rattle.tree_check.specs.Frees.{GroupAt, emptyAt}
+use Rattle.tree_check.specs.Laws.Frees.{empty-is}
 use Rattle.tree_check.specs.Trees.{memoryOf, MaySplit, Fine, TreeReady, TreeGood, TreeFound, TreeScanned, GroupGood, GroupFound, GroupScanned}
 
 pub fine-told : (r : Region) (t : Tree) → Fine r t → Told t
@@ -69,6 +71,24 @@ module _ (r : Region) (nodes dots : List ℕ) (rects : List ℤ) (marks : List �
   leaf-in (leaf c) ne h =
       (c, record { chained = chain-nodes M P refl refl (M .first node) c (h .stands .1); counted = sym (h .stands .0); passing = h .fine .0; once = h .placesOnce })
   leaf-in (branch g f) ne h = absurd (ne (h .stands .0))
+
+  -- an empty leaf: nothing is counted, and nothing marked
+  pub empty-found : emptyAt nodes node ≡ true → TreeFound r M marks places groups node marks
+  unfolding branchMark
+  empty-found e =
+      let words = empty-is nodes node e in
+      record {
+        tree = leaf [];
+        good = record {
+          stands = (words .1, words .0);
+          fine = (tt, (λ s. omega arith), omega arith);
+          placesOnce = record { once = λ j b. omega (arith, bits j); within = λ j b. refl };
+          groupsOnce = record { once = λ j b. omega (arith, bits (places + j)); within = λ j b. refl };
+        };
+        placesAdded = record { added = λ j b. omega arith };
+        groupsAdded = record { added = λ j b. omega arith };
+        ready = ready .markReady;
+      }
 
   pub leaf-over : (M .count node ≡ branchMark → ⊥) → MaySplit r → r .settings .«leaf_limit» < M .count node → TreeScanned r M marks places groups node marks false
   unfolding TreeScanned

@@ -1,6 +1,10 @@
 -- The splits keep the insert on its way, and the push ends it.
-use mathlib.Core.Path.{refl}
+use mathlib.Core.Path.{refl, sym, subst}
+use lib.ListN.{length, replicate}
 use native.Mathlib.Omega.{arith}
+use Rattle.model.specs.declared.State.{State}
+use Rattle.model.specs.Shapes.{inserted}
+use Rattle.model.specs.Layout.{world, Holds}
 use Rattle.tree_insert.specs.Growing.{Going}
 use Rattle.tree_insert.specs.Landings.{Lands, land-asks, starts-going, starts-live, landed-holds}
 use borrow.Author.Needs.{needs}
@@ -9,24 +13,33 @@ use Rattle.tree_insert.proofs.insert_at.Tie as tie
 
 -- the insert that the function was called for, once its splits are made
 gone : (c : tie.After-split-down)
-    → Going (c .before .before .before .before .before .before .before .pre .shape) (c .before .before .before .before .before .before .before .args .dot) (c .before .before .before .before .before .before .before .args .state .«free_place») (c .split-down .last .0) (c .split-down .last .1 .0) (c .before .before .before .before .before .before .before .args .rects .now) (c .split-down .result .group) (c .split-down .result .node) (c .split-down .ensures .0) 0
+    → let pre = c .before .before .before .before .before .before .pre in let args = c .before .before .before .before .before .before .args in
+    Going (pre .shape) (args .dot) (args .state .«free_place») (c .split-down .last .0) (c .split-down .last .1 .0) (args .rects .now) (c .split-down .result .group) (c .split-down .result .node) (c .split-down .ensures .0) 0
 gone c =
-    c .split-down .ensures .1 (c .before .before .before .before .before .before .before .pre .shape) (c .before .before .before .before .before .before .before .args .dot) (c .before .before .before .before .before .before .before .args .state .«free_place») refl
-    (starts-going (c .before .before .before .before .before .before .before .args .state) (c .before .before .before .before .before .before .before .args .dot) (c .before .before .before .before .before .before .before .args .nodes .now) (c .before .before .before .before .before .before .before .args .dots .now) (c .before .before .before .before .before .before .before .args .rects .now) (c .before .before .before .before .before .before .before .args .leaf) (c .before .before .before .before .before .before .before .args .splits) (c .before .before .before .before .before .before .before .pre .marks) (c .before .before .before .before .before .before .before .pre .shape) (c .before .before .before .before .before .before .before .pre .starts))
+    let pre = c .before .before .before .before .before .before .pre in
+    let args = c .before .before .before .before .before .before .args in
+    c .split-down .ensures .1 (pre .shape) (args .dot) (args .state .«free_place») refl
+    (starts-going (args .state) (args .dot) (args .nodes .now) (args .dots .now) (args .rects .now) (args .leaf) (args .splits) (pre .marks) (pre .shape) (pre .starts))
 
-asks : (c : tie.After-split-down) → Lands (c .split-down .last .0) (c .split-down .last .1 .0) (c .before .before .before .before .before .before .before .args .rects .now) (c .split-down .result .node) (c .before .before .before .before .before .before .before .args .state .«free_place»)
+asks : (c : tie.After-split-down) → let args = c .before .before .before .before .before .before .args in
+    Lands (c .split-down .last .0) (c .split-down .last .1 .0) (args .rects .now) (c .split-down .result .node) (args .state .«free_place»)
 asks c =
-    land-asks (c .before .before .before .before .before .before .before .pre .shape) (c .before .before .before .before .before .before .before .args .dot) (c .before .before .before .before .before .before .before .args .state .«free_place») (c .split-down .last .0) (c .split-down .last .1 .0) (c .before .before .before .before .before .before .before .args .rects .now) (c .split-down .result .group) (c .split-down .result .node) (c .split-down .ensures .0)
-    (gone c) (c .before .before .before .before .before .before .before .pre .starts .room)
+    let pre = c .before .before .before .before .before .before .pre in
+    let args = c .before .before .before .before .before .before .args in
+    land-asks (pre .shape) (args .dot) (args .state .«free_place») (c .split-down .last .0) (c .split-down .last .1 .0) (args .rects .now) (c .split-down .result .group) (c .split-down .result .node) (c .split-down .ensures .0)
+    (gone c) (pre .starts .room)
 
 split-down-requires : tie.Need-split-down-requires
-split-down-requires c κs = record {
-  shape = c .before .before .before .before .before .before .pre .shape;
-  dot = c .before .before .before .before .before .before .args .dot;
-  rect = refl;
-  placeHead = c .before .before .before .before .before .before .args .state .«free_place»;
-  going = starts-going (c .before .before .before .before .before .before .args .state) (c .before .before .before .before .before .before .args .dot) (c .before .before .before .before .before .before .args .nodes .now) (c .before .before .before .before .before .before .args .dots .now) (c .before .before .before .before .before .before .args .rects .now) (c .before .before .before .before .before .before .args .leaf) (c .before .before .before .before .before .before .args .splits) (c .before .before .before .before .before .before .pre .marks) (c .before .before .before .before .before .before .pre .shape) (c .before .before .before .before .before .before .pre .starts);
-}
+split-down-requires c κs =
+    let pre = c .before .before .before .before .before .pre in
+    let args = c .before .before .before .before .before .args in
+    record {
+      shape = pre .shape;
+      dot = args .dot;
+      rect = refl;
+      placeHead = args .state .«free_place»;
+      going = starts-going (args .state) (args .dot) (args .nodes .now) (args .dots .now) (args .rects .now) (args .leaf) (args .splits) (pre .marks) (pre .shape) (pre .starts);
+    }
 
 cast-next-at : tie.Need-cast-next-at
 cast-next-at c = search needs
@@ -37,8 +50,14 @@ next-at-requires c κs = asks (c .before .before .before .before .before) .place
 push-dot-requires : tie.Need-push-dot-requires
 push-dot-requires c κs = asks (c .before .before .before .before .before .before .before .before .before)
 
-add-t28 : tie.Need-add-t28
-add-t28 c = omega (arith, starts-live (c .before .before .before .before .before .before .before .before .before .before .before .before .before .before .before .before .before .before .before .before .before .before .before .args .state) (c .before .before .before .before .before .before .before .before .before .before .before .before .before .before .before .before .before .before .before .before .before .before .before .args .dot) (c .before .before .before .before .before .before .before .before .before .before .before .before .before .before .before .before .before .before .before .before .before .before .before .args .nodes .now) (c .before .before .before .before .before .before .before .before .before .before .before .before .before .before .before .before .before .before .before .before .before .before .before .args .dots .now) (c .before .before .before .before .before .before .before .before .before .before .before .before .before .before .before .before .before .before .before .before .before .before .before .args .rects .now) (c .before .before .before .before .before .before .before .before .before .before .before .before .before .before .before .before .before .before .before .before .before .before .before .args .leaf) (c .before .before .before .before .before .before .before .before .before .before .before .before .before .before .before .before .before .before .before .before .before .before .before .args .splits) (c .before .before .before .before .before .before .before .before .before .before .before .before .before .before .before .before .before .before .before .before .before .before .before .pre .marks) (c .before .before .before .before .before .before .before .before .before .before .before .before .before .before .before .before .before .before .before .before .before .before .before .pre .shape) (c .before .before .before .before .before .before .before .before .before .before .before .before .before .before .before .before .before .before .before .before .before .before .before .pre .starts))
+add-changed : tie.Need-add-changed
+add-changed c =
+    let args = c .before .before .before .before .before .before .before .before .before .before .before .before .before .before .before .before .before .before .before .before .before .before .args in
+    let pre = c .before .before .before .before .before .before .before .before .before .before .before .before .before .before .before .before .before .before .before .before .before .before .pre in
+    omega (arith, starts-live (args .state) (args .dot) (args .nodes .now) (args .dots .now) (args .rects .now) (args .leaf) (args .splits) (pre .marks) (pre .shape) (pre .starts))
+
+changed-requires : tie.Need-changed-requires
+changed-requires c κs = search needs
 
 same-length : tie.Need-same-length
 same-length c = search needs
@@ -50,10 +69,17 @@ same-length-3 : tie.Need-same-length-3
 same-length-3 c = search needs
 
 returns : tie.Need-returns
-returns c = λ marks x S. landed-holds (c .before .before .before .before .before .before .before .before .before .before .before .before .before .before .before .before .before .before .before .before .before .before .before .args .state) (c .before .before .before .before .before .before .before .before .before .before .before .before .before .before .before .before .before .before .before .before .before .before .before .args .dot) (c .before .before .before .before .before .before .before .before .before .before .before .before .before .before .before .before .before .before .before .before .before .before .before .args .nodes .now) (c .before .before .before .before .before .before .before .before .before .before .before .before .before .before .before .before .before .before .before .before .before .before .before .args .dots .now) (c .before .before .before .before .before .before .before .before .before .before .before .before .before .before .before .before .before .before .before .before .before .before .before .args .rects .now) (c .before .before .before .before .before .before .before .before .before .before .before .before .before .before .before .before .before .before .before .before .before .before .before .args .leaf) (c .before .before .before .before .before .before .before .before .before .before .before .before .before .before .before .before .before .before .before .before .before .before .before .args .splits) marks x S
-    (c .before .before .before .before .before .before .before .before .before .before .before .before .before .before .before .before .split-down .last .0) (c .before .before .before .before .before .before .before .before .before .before .before .before .before .before .before .before .split-down .last .1 .0) (c .before .before .before .before .before .before .before .before .before .before .before .before .before .before .before .before .split-down .result .group) (c .before .before .before .before .before .before .before .before .before .before .before .before .before .before .before .before .split-down .result .node) (c .before .before .before .before .before .before .before .before .before .before .before .before .before .before .before .before .split-down .ensures .0)
-    (c .before .before .before .before .before .before .before .before .before .before .before .before .before .before .before .before .split-down .ensures .1 x (c .before .before .before .before .before .before .before .before .before .before .before .before .before .before .before .before .before .before .before .before .before .before .before .args .dot) (c .before .before .before .before .before .before .before .before .before .before .before .before .before .before .before .before .before .before .before .before .before .before .before .args .state .«free_place») refl (starts-going (c .before .before .before .before .before .before .before .before .before .before .before .before .before .before .before .before .before .before .before .before .before .before .before .args .state) (c .before .before .before .before .before .before .before .before .before .before .before .before .before .before .before .before .before .before .before .before .before .before .before .args .dot) (c .before .before .before .before .before .before .before .before .before .before .before .before .before .before .before .before .before .before .before .before .before .before .before .args .nodes .now) (c .before .before .before .before .before .before .before .before .before .before .before .before .before .before .before .before .before .before .before .before .before .before .before .args .dots .now) (c .before .before .before .before .before .before .before .before .before .before .before .before .before .before .before .before .before .before .before .before .before .before .before .args .rects .now) (c .before .before .before .before .before .before .before .before .before .before .before .before .before .before .before .before .before .before .before .before .before .before .before .args .leaf) (c .before .before .before .before .before .before .before .before .before .before .before .before .before .before .before .before .before .before .before .before .before .before .before .args .splits) marks x S))
-    (c .before .before .before .before .before .before .before .before .before .before .next-at .result) (c .before .before .before .before .before .before .push-dot .last .0) (c .before .before .before .before .before .before .push-dot .last .1 .0) (c .before .before .before .before .before .before .push-dot .last .1 .1 .0) (c .before .before .before .before .before .before .before .before .before .before .next-at .ensures) (c .before .before .before .before .before .before .push-dot .ensures .0) (c .before .before .before .before .before .before .push-dot .ensures .1) (c .before .before .before .before .before .before .push-dot .ensures .2)
+returns c =
+    let args = c .before .before .before .before .before .before .before .before .before .before .before .before .before .before .before .before .before .before .before .before .before .before .before .args in
+    let split-down = c .before .before .before .before .before .before .before .before .before .before .before .before .before .before .before .before .before .split-down in
+    let next-at = c .before .before .before .before .before .before .before .before .before .before .before .next-at in
+    let push-dot = c .before .before .before .before .before .before .before .push-dot in
+    λ marks x S.
+    subst (λ (s′ : State). Holds (world s′ (push-dot .last .0) (push-dot .last .1 .0) (push-dot .last .1 .1 .0) (replicate (length marks) 0)) (inserted (args .dot) x)) (sym (c .changed .ensures))
+    (landed-holds (args .state) (args .dot) (args .nodes .now) (args .dots .now) (args .rects .now) (args .leaf) (args .splits) marks x S
+    (split-down .last .0) (split-down .last .1 .0) (split-down .result .group) (split-down .result .node) (split-down .ensures .0)
+    (split-down .ensures .1 x (args .dot) (args .state .«free_place») refl (starts-going (args .state) (args .dot) (args .nodes .now) (args .dots .now) (args .rects .now) (args .leaf) (args .splits) marks x S))
+    (next-at .result) (push-dot .last .0) (push-dot .last .1 .0) (push-dot .last .1 .1 .0) (next-at .ensures) (push-dot .ensures .0) (push-dot .ensures .1) (push-dot .ensures .2))
 
 pub insert-at-spec : {M : Type 1} → statement M
 insert-at-spec =
@@ -63,7 +89,8 @@ insert-at-spec =
     cast-next-at
     next-at-requires
     push-dot-requires
-    add-t28
+    add-changed
+    changed-requires
     same-length
     same-length-2
     same-length-3

@@ -24,11 +24,14 @@ same-length-3 : tie.Need-same-length-3
 same-length-3 c = search needs
 
 returns : tie.Need-returns
-returns c = (
-  c .before .before .before .before .push-place .ensures .0,
-  c .before .before .before .before .push-place .ensures .1 ∙ ap (λ (l : List ℕ). setNextAt l (c .before .before .before .before .before .before .before .before .before .before .before .before .before .before .before .args .place) (firstAt (c .before .before .before .before .before .before .before .before .before .before .before .before .before .before .before .args .nodes .now) (c .before .before .before .before .before .before .before .before .before .before .before .before .before .before .before .args .node))) (c .before .before .before .before .before .before .before .before .before .before .set-dot .ensures .0),
-  c .before .before .before .before .before .before .before .before .before .before .set-dot .ensures .1,
-)
+returns c =
+    let args = c .before .before .before .before .before .before .before .before .before .before .before .before .before .before .before .args in
+    let set-dot = c .before .before .before .before .before .before .before .before .before .before .set-dot in
+    let push-place = c .before .before .before .before .push-place in (
+      push-place .ensures .0,
+      push-place .ensures .1 ∙ ap (λ (l : List ℕ). setNextAt l (args .place) (firstAt (args .nodes .now) (args .node))) (set-dot .ensures .0),
+      set-dot .ensures .1,
+    )
 
 pub push-dot-spec : {M : Type 1} → statement M
 push-dot-spec =

@@ -17,8 +17,10 @@ abbrev μ-loop : tie.MeasureT-loop
 -- where places are left, the next one is there
 here : (c : tie.Else1 Inv-loop μ-loop) → HasPlace (c .before .before .before .args .dots .now) (c .before .loop .at)
 here c =
-    let s = c .before .loop .inv (c .before .before .before .pre .chain) (c .before .before .before .pre .linked) in
-    linked-here (c .before .before .before .args .dots .now) (c .before .before .before .args .id) (c .before .loop .at) (c .before .loop .left) (s .0) (s .1) (c .if1 .left)
+    let pre = c .before .before .before .pre in
+    let args = c .before .before .before .args in
+    let s = c .before .loop .inv (pre .chain) (pre .linked) in
+    linked-here (args .dots .now) (args .id) (c .before .loop .at) (c .before .loop .left) (s .0) (s .1) (c .if1 .left)
 
 loop-holds : tie.Need-loop-holds Inv-loop μ-loop
 loop-holds c = λ chain l. (chain, l, refl)
@@ -39,16 +41,24 @@ loop-less : tie.Need-loop-less Inv-loop μ-loop
 loop-less c = omega arith
 
 loop-again : tie.Need-loop-again Inv-loop μ-loop
-loop-again c = hit-on (c .before .before .before .before .before .before .args .dots .now) (c .before .before .before .before .before .before .args .id) (c .before .before .before .before .before .before .args .leaf .first) 4294967295 (c .before .before .before .before .before .before .args .leaf .count) (c .before .before .before .before .loop .at) (c .before .before .before .before .loop .previous) (c .before .before .before .before .loop .left) (c .next-at .result) (c .before .before .before .before .loop .inv) (c .before .before .before .if1 .left) (λ e. c .before .if2 .left (c .before .before .id-at .ensures ∙ e)) (c .next-at .ensures)
+loop-again c =
+    let args = c .before .before .before .before .before .before .args in
+    let loop = c .before .before .before .before .loop in
+    hit-on (args .dots .now) (args .id) (args .leaf .first) 4294967295 (args .leaf .count) (loop .at) (loop .previous) (loop .left) (c .next-at .result) (loop .inv) (c .before .before .before .if1 .left) (λ e. c .before .if2 .left (c .before .before .id-at .ensures ∙ e)) (c .next-at .ensures)
 
 returns : tie.Need-returns Inv-loop μ-loop
 unfolding none
-returns c = λ chain l. let s = c .before .loop .inv chain l in sym (s .2 ∙ hit-over (c .before .before .before .args .dots .now) (c .before .before .before .args .id) (c .before .loop .at) (c .before .loop .left) (c .before .loop .previous) (s .0) (s .1) (c .if1 .taken))
+returns c =
+    let args = c .before .before .before .args in
+    λ chain l. let s = c .before .loop .inv chain l in sym (s .2 ∙ hit-over (args .dots .now) (args .id) (c .before .loop .at) (c .before .loop .left) (c .before .loop .previous) (s .0) (s .1) (c .if1 .taken))
 
 returns-2 : tie.Need-returns-2 Inv-loop μ-loop
 unfolding none
-returns-2 c = λ chain l. let s = c .before .before .before .loop .inv chain l in
-    sym (s .2 ∙ hit-here (c .before .before .before .before .before .args .dots .now) (c .before .before .before .before .before .args .id) (c .before .before .before .loop .at) (c .before .before .before .loop .left) (c .before .before .before .loop .previous) (s .0) (s .1) (c .before .before .if1 .left) (sym (c .before .id-at .ensures) ∙ c .if2 .taken))
+returns-2 c =
+    let args = c .before .before .before .before .before .args in
+    let loop = c .before .before .before .loop in
+    λ chain l. let s = loop .inv chain l in
+    sym (s .2 ∙ hit-here (args .dots .now) (args .id) (loop .at) (loop .left) (loop .previous) (s .0) (s .1) (c .before .before .if1 .left) (sym (c .before .id-at .ensures) ∙ c .if2 .taken))
 
 pub find-dot-spec : {M : Type 1} → statement M
 find-dot-spec =

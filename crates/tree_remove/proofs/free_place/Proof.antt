@@ -20,7 +20,10 @@ same-length-2 : tie.Need-same-length-2
 same-length-2 c = search needs
 
 returns : tie.Need-returns
-returns c = (c .before .before .set-next .ensures ∙ ap (λ (l : List ℕ). setNextAt l (c .before .before .before .before .before .before .before .before .before .before .before .args .place) (c .before .before .before .before .before .before .before .before .before .before .before .args .head)) (c .before .before .before .before .before .before .before .set-dot .ensures .0), c .before .before .before .before .before .before .before .set-dot .ensures .1)
+returns c =
+    let args = c .before .before .before .before .before .before .before .before .before .before .before .args in
+    let set-dot = c .before .before .before .before .before .before .before .set-dot in
+    (c .before .before .set-next .ensures ∙ ap (λ (l : List ℕ). setNextAt l (args .place) (args .head)) (set-dot .ensures .0), set-dot .ensures .1)
 
 pub free-place-spec : {M : Type 1} → statement M
 free-place-spec =

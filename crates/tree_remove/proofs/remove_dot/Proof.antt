@@ -1,7 +1,12 @@
 -- The code looks up what the laws of the remove speak of, and its stores are theirs.
-use mathlib.Core.Path.{_≡_}
+use mathlib.Core.Path.{_≡_, sym, subst}
+use mathlib.Core.List.{[]}
+use mathlib.Core.Bool.{true}
+use lib.ListN.{length, replicate}
 use native.Mathlib.Omega.{arith}
-use Rattle.model.specs.Layout.{none}
+use Rattle.model.specs.declared.State.{State}
+use Rattle.model.specs.Layout.{none, world}
+use Rattle.model.specs.Calls.{answered, exit, carriedOut, removeRule}
 use Rattle.tree.specs.Routes.{holds-way}
 use Rattle.tree.specs.Leaves.{leads-has}
 use Rattle.tree_remove.specs.Removes.{Looked, Takes, leads-searchable, look-takes, look-no, look-yes}
@@ -10,22 +15,35 @@ use Rattle.tree_remove.proofs.remove_dot.Statement.{statement}
 use Rattle.tree_remove.proofs.remove_dot.Tie as tie
 
 -- what the code has looked up
-looked : (c : tie.After-find-dot) → Looked (c .before .before .before .before .before .before .before .before .before .args .state) (c .before .before .before .before .before .before .before .before .before .args .nodes .now) (c .before .before .before .before .before .before .before .before .before .args .dots .now) (c .before .before .before .before .before .before .before .before .before .args .id) (c .before .before .before .before .before .before .before .before .before .args .rect) (c .before .before .before .before .find-leaf .result) (c .before .before .node-at .result) (c .find-dot .result)
+looked : (c : tie.After-find-dot) → let args = c .before .before .before .before .before .before .before .before .before .args in
+    Looked (args .state) (args .nodes .now) (args .dots .now) (args .id) (args .rect) (c .before .before .before .before .find-leaf .result) (c .before .before .node-at .result) (c .find-dot .result)
 looked c = record { leads = c .before .before .before .before .find-leaf .ensures; words = c .before .before .node-at .ensures; finds = c .find-dot .ensures }
 
-takes : (c : tie.Else1) → ¬ (c .before .before .find-dot .result .place ≡ none)
-    → Takes (c .before .before .before .before .before .before .before .before .before .before .before .args .state) (c .before .before .before .before .before .before .before .before .before .before .before .args .nodes .now) (c .before .before .before .before .before .before .before .before .before .before .before .args .dots .now) (c .before .before .before .before .before .before .before .before .before .before .before .args .rects .now) (c .before .before .before .before .before .before .find-leaf .result) (c .before .before .before .before .node-at .result) (c .before .before .find-dot .result)
-takes c = look-takes (c .before .before .before .before .before .before .before .before .before .before .before .args .state) (c .before .before .before .before .before .before .before .before .before .before .before .args .nodes .now) (c .before .before .before .before .before .before .before .before .before .before .before .args .dots .now) (c .before .before .before .before .before .before .before .before .before .before .before .args .rects .now) (c .before .before .before .before .before .before .before .before .before .before .before .pre .marks) (c .before .before .before .before .before .before .before .before .before .before .before .pre .shape) (c .before .before .before .before .before .before .before .before .before .before .before .pre .holds)
-    (c .before .before .before .before .before .before .before .before .before .before .before .args .id) (c .before .before .before .before .before .before .before .before .before .before .before .args .rect) (c .before .before .before .before .before .before .find-leaf .result) (c .before .before .before .before .node-at .result) (c .before .before .find-dot .result) (looked (c .before .before))
+takes : (c : tie.Else1) → let args = c .before .before .before .before .before .before .before .before .before .before .before .args in let find-leaf = c .before .before .before .before .before .before .find-leaf in let find-dot = c .before .before .find-dot in
+    ¬ (find-dot .result .place ≡ none)
+    → Takes (args .state) (args .nodes .now) (args .dots .now) (args .rects .now) (find-leaf .result) (c .before .before .before .before .node-at .result) (find-dot .result)
+takes c =
+    let args = c .before .before .before .before .before .before .before .before .before .before .before .args in
+    let pre = c .before .before .before .before .before .before .before .before .before .before .before .pre in
+    let find-leaf = c .before .before .before .before .before .before .find-leaf in
+    look-takes (args .state) (args .nodes .now) (args .dots .now) (args .rects .now) (pre .marks) (pre .shape) (pre .holds)
+    (args .id) (args .rect) (find-leaf .result) (c .before .before .before .before .node-at .result) (c .before .before .find-dot .result) (looked (c .before .before))
 
 find-leaf-requires : tie.Need-find-leaf-requires
 find-leaf-requires c κs = holds-way _ _ (c .before .before .before .before .pre .holds)
 
 node-at-requires : tie.Need-node-at-requires
-node-at-requires c κs = leads-has _ _ (c .before .before .before .before .before .before .pre .holds) (c .before .before .before .before .before .before .args .rect) (c .before .find-leaf .result) (c .before .find-leaf .ensures)
+node-at-requires c κs =
+    let pre = c .before .before .before .before .before .before .pre in
+    let args = c .before .before .before .before .before .before .args in
+    leads-has _ _ (pre .holds) (args .rect) (c .before .find-leaf .result) (c .before .find-leaf .ensures)
 
 find-dot-requires : tie.Need-find-dot-requires
-find-dot-requires c κs = leads-searchable _ _ (c .before .before .before .before .before .before .before .before .pre .holds) (c .before .before .before .before .before .before .before .before .args .rect) (c .before .before .before .find-leaf .result) (c .before .before .before .find-leaf .ensures) (c .before .node-at .result) (c .before .node-at .ensures)
+find-dot-requires c κs =
+    let pre = c .before .before .before .before .before .before .before .before .pre in
+    let args = c .before .before .before .before .before .before .before .before .args in
+    let find-leaf = c .before .before .before .find-leaf in
+    leads-searchable _ _ (pre .holds) (args .rect) (find-leaf .result) (find-leaf .ensures) (c .before .node-at .result) (c .before .node-at .ensures)
 
 same-length : tie.Need-same-length
 same-length c = search needs
@@ -35,7 +53,10 @@ same-length-2 c = search needs
 
 returns : tie.Need-returns
 unfolding none
-returns c = λ marks x h. look-no (c .before .before .before .before .before .before .before .before .before .before .before .args .state) (c .before .before .before .before .before .before .before .before .before .before .before .args .nodes .now) (c .before .before .before .before .before .before .before .before .before .before .before .args .dots .now) (c .before .before .before .before .before .before .before .before .before .before .before .args .rects .now) marks x h (c .before .before .before .before .before .before .before .before .before .before .before .args .id) (c .before .before .before .before .before .before .before .before .before .before .before .args .rect) (c .before .before .before .before .before .before .find-leaf .result) (c .before .before .before .before .node-at .result) (c .before .before .find-dot .result) (looked (c .before .before)) (c .if1 .taken)
+returns c =
+    let args = c .before .before .before .before .before .before .before .before .before .before .before .args in
+    let find-leaf = c .before .before .before .before .before .before .find-leaf in
+    λ marks x h. look-no (args .state) (args .nodes .now) (args .dots .now) (args .rects .now) marks x h (args .id) (args .rect) (find-leaf .result) (c .before .before .before .before .node-at .result) (c .before .before .find-dot .result) (looked (c .before .before)) (c .if1 .taken)
 
 unlink-requires : tie.Need-unlink-requires
 unfolding none
@@ -46,11 +67,19 @@ cast-free-place c = search needs
 
 free-place-requires : tie.Need-free-place-requires
 unfolding none
-free-place-requires c κs = let t = takes (c .before .before .before .before .before .before .before .before .before) (c .before .before .before .before .before .before .before .before .before .if1 .left) in (omega (arith, t .unlinks .2, c .before .before .before .before .before .before .unlink .kept), t .rect)
+free-place-requires c κs =
+    let if1 = c .before .before .before .before .before .before .before .before .before .if1 in
+    let unlink = c .before .before .before .before .before .before .unlink in
+    let t = takes (c .before .before .before .before .before .before .before .before .before) (if1 .left) in (omega (arith, t .unlinks .2, unlink .kept), t .rect)
 
-sub-t30 : tie.Need-sub-t30
+sub-changed : tie.Need-sub-changed
 unfolding none
-sub-t30 c = takes (c .before .before .before .before .before .before .before .before .before .before .before .before .before .before) (c .before .before .before .before .before .before .before .before .before .before .before .before .before .before .if1 .left) .live
+sub-changed c =
+    let if1 = c .before .before .before .before .before .before .before .before .before .before .before .before .before .before .if1 in
+    takes (c .before .before .before .before .before .before .before .before .before .before .before .before .before .before) (if1 .left) .live
+
+changed-requires : tie.Need-changed-requires
+changed-requires c κs = search needs
 
 same-length-3 : tie.Need-same-length-3
 same-length-3 c = search needs
@@ -63,9 +92,21 @@ same-length-5 c = search needs
 
 returns-2 : tie.Need-returns-2
 unfolding none
-returns-2 c = λ marks x h. look-yes (c .before .before .before .before .before .before .before .before .before .before .before .before .before .before .before .before .before .before .before .before .before .before .before .before .before .args .state) (c .before .before .before .before .before .before .before .before .before .before .before .before .before .before .before .before .before .before .before .before .before .before .before .before .before .args .nodes .now) (c .before .before .before .before .before .before .before .before .before .before .before .before .before .before .before .before .before .before .before .before .before .before .before .before .before .args .dots .now) (c .before .before .before .before .before .before .before .before .before .before .before .before .before .before .before .before .before .before .before .before .before .before .before .before .before .args .rects .now) marks x h (c .before .before .before .before .before .before .before .before .before .before .before .before .before .before .before .before .before .before .before .before .before .before .before .before .before .args .id) (c .before .before .before .before .before .before .before .before .before .before .before .before .before .before .before .before .before .before .before .before .before .before .before .before .before .args .rect) (c .before .before .before .before .before .before .before .before .before .before .before .before .before .before .before .before .before .before .before .before .find-leaf .result) (c .before .before .before .before .before .before .before .before .before .before .before .before .before .before .before .before .before .before .node-at .result) (c .before .before .before .before .before .before .before .before .before .before .before .before .before .before .before .before .find-dot .result)
-    (looked (c .before .before .before .before .before .before .before .before .before .before .before .before .before .before .before .before)) (c .before .before .before .before .before .before .before .before .before .before .before .before .before .before .if1 .left) (c .before .before .before .before .before .before .before .before .before .before .before .unlink .last .0) (c .before .before .before .before .before .before .before .before .before .before .before .unlink .last .1 .0) (c .before .before .before .before .free-place .last .0) (c .before .before .before .before .free-place .last .1 .0)
-    (c .before .before .before .before .before .before .before .before .before .before .before .unlink .ensures .0) (c .before .before .before .before .before .before .before .before .before .before .before .unlink .ensures .1) (c .before .before .before .before .free-place .ensures .0) (c .before .before .before .before .free-place .ensures .1)
+returns-2 c =
+    let args = c .before .before .before .before .before .before .before .before .before .before .before .before .before .before .before .before .before .before .before .before .before .before .before .before .before .before .args in
+    let find-leaf = c .before .before .before .before .before .before .before .before .before .before .before .before .before .before .before .before .before .before .before .before .before .find-leaf in
+    let node-at = c .before .before .before .before .before .before .before .before .before .before .before .before .before .before .before .before .before .before .before .node-at in
+    let find-dot = c .before .before .before .before .before .before .before .before .before .before .before .before .before .before .before .before .before .find-dot in
+    let if1 = c .before .before .before .before .before .before .before .before .before .before .before .before .before .before .before .if1 in
+    let unlink = c .before .before .before .before .before .before .before .before .before .before .before .before .unlink in
+    let free-place = c .before .before .before .before .before .free-place in
+    let t = c .changed in
+    λ marks x h.
+    subst (λ (s′ : State). exit (world s′ (unlink .last .0) (free-place .last .0) (free-place .last .1 .0) (replicate (length marks) 0)) [] (answered true)
+    ≡ carriedOut (world (args .state) (args .nodes .now) (args .dots .now) (args .rects .now) marks) [] (removeRule (args .id) (args .rect) x)) (sym (t .ensures))
+    (look-yes (args .state) (args .nodes .now) (args .dots .now) (args .rects .now) marks x h (args .id) (args .rect) (find-leaf .result) (node-at .result) (find-dot .result)
+    (looked (c .before .before .before .before .before .before .before .before .before .before .before .before .before .before .before .before .before)) (if1 .left) (unlink .last .0) (unlink .last .1 .0) (free-place .last .0) (free-place .last .1 .0)
+    (unlink .ensures .0) (unlink .ensures .1) (free-place .ensures .0) (free-place .ensures .1))
 
 pub remove-dot-spec : {M : Type 1} → statement M
 remove-dot-spec =
@@ -80,7 +121,8 @@ remove-dot-spec =
     unlink-requires
     cast-free-place
     free-place-requires
-    sub-t30
+    sub-changed
+    changed-requires
     same-length-3
     same-length-4
     same-length-5

@@ -27,15 +27,20 @@ same-length-2 c = search needs
 
 returns : tie.Need-returns
 unfolding none
-returns c = let u = unlinked-head (c .before .before .before .before .before .before .before .before .before .before .before .before .args .dots .now) (c .before .before .before .before .before .before .before .before .before .before .before .before .args .leaf) (c .before .before .before .before .before .before .before .before .before .before .before .before .args .hit) (c .before .before .before .before .before .before .before .next-at .result) (c .before .before .before .before .if1 .taken) (c .before .before .before .before .before .before .before .next-at .ensures) in
-    (c .before .before .set-node .ensures ∙ ap (setNodeAt (c .before .before .before .before .before .before .before .before .before .before .before .before .args .nodes .now) (c .before .before .before .before .before .before .before .before .before .before .before .before .args .node)) (u .0), u .1)
+returns c =
+    let args = c .before .before .before .before .before .before .before .before .before .before .before .before .args in
+    let next-at = c .before .before .before .before .before .before .before .next-at in
+    let u = unlinked-head (args .dots .now) (args .leaf) (args .hit) (next-at .result) (c .before .before .before .before .if1 .taken) (next-at .ensures) in
+    (c .before .before .set-node .ensures ∙ ap (setNodeAt (args .nodes .now) (args .node)) (u .0), u .1)
 
 cast-previous : tie.Need-cast-previous
 cast-previous c = search needs
 
 set-next-requires : tie.Need-set-next-requires
 unfolding none
-set-next-requires c κs = c .before .before .before .before .before .before .before .before .before .before .pre .3 (c .before .before .if1 .left)
+set-next-requires c κs =
+    let pre = c .before .before .before .before .before .before .before .before .before .before .pre in
+    pre .3 (c .before .before .if1 .left)
 
 set-node-requires-2 : tie.Need-set-node-requires-2
 set-node-requires-2 c κs = search needs
@@ -48,8 +53,13 @@ same-length-4 c = search needs
 
 returns-2 : tie.Need-returns-2
 unfolding none
-returns-2 c = let u = unlinked-later (c .before .before .before .before .before .before .before .before .before .before .before .before .before .before .before .before .before .args .dots .now) (c .before .before .before .before .before .before .before .before .before .before .before .before .before .before .before .before .before .args .leaf) (c .before .before .before .before .before .before .before .before .before .before .before .before .before .before .before .before .before .args .hit) (c .before .before .before .before .before .before .before .before .before .before .before .before .next-at .result) (c .before .before .before .before .before .before .before .before .before .if1 .left) (c .before .before .before .before .before .before .before .before .before .before .before .before .next-at .ensures) in
-    (c .before .before .set-node2 .ensures ∙ ap (setNodeAt (c .before .before .before .before .before .before .before .before .before .before .before .before .before .before .before .before .before .args .nodes .now) (c .before .before .before .before .before .before .before .before .before .before .before .before .before .before .before .before .before .args .node)) (u .0), c .before .before .before .before .before .before .set-next .ensures ∙ u .1)
+returns-2 c =
+    let args = c .before .before .before .before .before .before .before .before .before .before .before .before .before .before .before .before .before .args in
+    let next-at = c .before .before .before .before .before .before .before .before .before .before .before .before .next-at in
+    let if1 = c .before .before .before .before .before .before .before .before .before .if1 in
+    let set-next = c .before .before .before .before .before .before .set-next in
+    let u = unlinked-later (args .dots .now) (args .leaf) (args .hit) (next-at .result) (if1 .left) (next-at .ensures) in
+    (c .before .before .set-node2 .ensures ∙ ap (setNodeAt (args .nodes .now) (args .node)) (u .0), set-next .ensures ∙ u .1)
 
 pub unlink-spec : {M : Type 1} → statement M
 unlink-spec =

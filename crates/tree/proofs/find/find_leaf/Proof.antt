@@ -23,20 +23,32 @@ abbrev μ-loop : tie.MeasureT-loop
 
 -- every tree that the nodes lead through, from the node data that the walk began with
 guided-here : (c : tie.After-root Inv-loop μ-loop) → Guided (c .before .before .args .nodes .now) (c .root .result) 0 (c .before .before .pre .tree)
-guided-here c = subst (λ (n : NodeData). Guided (c .before .before .args .nodes .now) n 0 (c .before .before .pre .tree)) (sym (c .root .ensures)) (c .before .before .pre .guided)
+guided-here c =
+    let pre = c .before .before .pre in
+    subst (λ (n : NodeData). Guided (c .before .before .args .nodes .now) n 0 (pre .tree)) (sym (c .root .ensures)) (pre .guided)
 
-branches : (c : tie.Then1 Inv-loop μ-loop) → countAt (c .before .before .before .before .before .before .args .nodes .now) (c .before .before .loop .node) ≡ branchMark
+branches : (c : tie.Then1 Inv-loop μ-loop) → let args = c .before .before .before .before .before .before .args in
+    countAt (args .nodes .now) (c .before .before .loop .node) ≡ branchMark
 unfolding branchMark
 branches c = sym (ap (λ (w : Node). w .count) (c .before .before .loop .inv .0)) ∙ c .if1 .taken
 
-facts : (c : tie.After-struct-known2 Inv-loop μ-loop) → WayOn (c .before .before .before .before .before .before .before .before .before .args .nodes .now) (c .before .before .before .before .before .before .before .before .before .args .rect) (c .before .before .before .before .before .before .before .root .result) (c .before .before .before .before .before .loop .«data») (c .before .before .before .before .before .loop .node) (c .before .before .before .before .before .loop .words .first) (c .before .route .result) (c .before .before .before .before .before .loop .inv .2) (branches (c .before .before .before)) (ap (λ (w : Node). w .first) (c .before .before .before .before .before .loop .inv .0)) (c .before .route .ensures)
-facts c = way-facts (c .before .before .before .before .before .before .before .before .before .args .nodes .now) (c .before .before .before .before .before .before .before .before .before .args .rect) (c .before .before .before .before .before .before .before .root .result) (c .before .before .before .before .before .loop .«data») (c .before .before .before .before .before .loop .node) (c .before .before .before .before .before .loop .words .first) (c .before .route .result) (c .before .before .before .before .before .loop .inv .2) (branches (c .before .before .before)) (ap (λ (w : Node). w .first) (c .before .before .before .before .before .loop .inv .0)) (c .before .route .ensures) (c .before .before .before .before .before .before .before .before .before .pre .tree) (guided-here (c .before .before .before .before .before .before .before))
+facts : (c : tie.After-struct-known2 Inv-loop μ-loop) → let args = c .before .before .before .before .before .before .before .before .before .args in let root = c .before .before .before .before .before .before .before .root in let loop = c .before .before .before .before .before .loop in
+    WayOn (args .nodes .now) (args .rect) (root .result) (loop .«data») (loop .node) (loop .words .first) (c .before .route .result) (loop .inv .2) (branches (c .before .before .before)) (ap (λ (w : Node). w .first) (loop .inv .0)) (c .before .route .ensures)
+facts c =
+    let args = c .before .before .before .before .before .before .before .before .before .args in
+    let pre = c .before .before .before .before .before .before .before .before .before .pre in
+    let root = c .before .before .before .before .before .before .before .root in
+    let loop = c .before .before .before .before .before .loop in
+    way-facts (args .nodes .now) (args .rect) (root .result) (loop .«data») (loop .node) (loop .words .first) (c .before .route .result) (loop .inv .2) (branches (c .before .before .before)) (ap (λ (w : Node). w .first) (loop .inv .0)) (c .before .route .ensures) (pre .tree) (guided-here (c .before .before .before .before .before .before .before))
 
 root-requires : tie.Need-root-requires Inv-loop μ-loop
 root-requires c κs = c .before .pre .accepted
 
 node-at-requires : tie.Need-node-at-requires Inv-loop μ-loop
-node-at-requires c κs = guided-has (c .before .before .args .nodes .now) (c .before .before .args .rect) (rootData (c .before .before .args .settings)) 0 (c .before .before .pre .tree) (c .before .before .pre .guided)
+node-at-requires c κs =
+    let args = c .before .before .args in
+    let pre = c .before .before .pre in
+    guided-has (args .nodes .now) (args .rect) (rootData (args .settings)) 0 (pre .tree) (pre .guided)
 
 loop-holds : tie.Need-loop-holds Inv-loop μ-loop
 unfolding rootData
@@ -69,17 +81,25 @@ loop-less c = facts (c .before .before) .less (c .before .child .result) (c .bef
 
 loop-again : tie.Need-loop-again Inv-loop μ-loop
 unfolding childData
-loop-again c = (
-  c .node-at2 .ensures,
-  subst (λ (n : NodeData). InRange (n .cell)) (sym (c .before .child .ensures)) (child-range _ _ (c .before .before .before .before .before .before .before .loop .inv .1)),
-  way-on (c .before .before .before .before .before .before .before .before .before .before .before .args .nodes .now) (c .before .before .before .before .before .before .before .before .before .before .before .args .rect) (c .before .before .before .before .before .before .before .before .before .root .result) (c .before .before .before .before .before .before .before .loop .«data») (c .before .before .before .before .before .before .before .loop .node) (c .before .before .before .before .before .before .before .loop .words .first) (c .before .before .before .route .result) (c .before .before .before .before .before .before .before .loop .inv .2) (branches (c .before .before .before .before .before)) (ap (λ (w : Node). w .first) (c .before .before .before .before .before .before .before .loop .inv .0)) (c .before .before .before .route .ensures) (c .before .child .result) (c .before .child .ensures),
-)
+loop-again c =
+    let args = c .before .before .before .before .before .before .before .before .before .before .before .args in
+    let root = c .before .before .before .before .before .before .before .before .before .root in
+    let loop = c .before .before .before .before .before .before .before .loop in
+    let route = c .before .before .before .route in (
+      c .node-at2 .ensures,
+      subst (λ (n : NodeData). InRange (n .cell)) (sym (c .before .child .ensures)) (child-range _ _ (loop .inv .1)),
+      way-on (args .nodes .now) (args .rect) (root .result) (loop .«data») (loop .node) (loop .words .first) (route .result) (loop .inv .2) (branches (c .before .before .before .before .before)) (ap (λ (w : Node). w .first) (loop .inv .0)) (route .ensures) (c .before .child .result) (c .before .child .ensures),
+    )
 
 returns : tie.Need-returns Inv-loop μ-loop
 unfolding branchMark
-returns c = λ t g.
-    let o = c .before .before .loop .inv .2 t (subst (λ (n : NodeData). Guided (c .before .before .before .before .before .before .args .nodes .now) n 0 t) (sym (c .before .before .before .before .root .ensures)) g) in
-    sym (ap (λ (n : NodeData). leafFor (c .before .before .before .before .before .before .args .rect) n 0 t) (sym (c .before .before .before .before .root .ensures)) ∙ o .2 ∙ arrived (c .before .before .before .before .before .before .args .nodes .now) (c .before .before .before .before .before .before .args .rect) _ _ (o .0) (o .1) (λ e. c .if1 .left (ap (λ (w : Node). w .count) (c .before .before .loop .inv .0) ∙ e)))
+returns c =
+    let args = c .before .before .before .before .before .before .args in
+    let root = c .before .before .before .before .root in
+    let loop = c .before .before .loop in
+    λ t g.
+    let o = loop .inv .2 t (subst (λ (n : NodeData). Guided (args .nodes .now) n 0 t) (sym (root .ensures)) g) in
+    sym (ap (λ (n : NodeData). leafFor (args .rect) n 0 t) (sym (root .ensures)) ∙ o .2 ∙ arrived (args .nodes .now) (args .rect) _ _ (o .0) (o .1) (λ e. c .if1 .left (ap (λ (w : Node). w .count) (loop .inv .0) ∙ e)))
 
 pub find-leaf-spec : {M : Type 1} → statement M
 find-leaf-spec =

@@ -13,17 +13,10 @@ use Rattle.memory.specs.declared.node.Node.{Node}
 use Rattle.tree_check.specs.Trees.{Sound, MaySplit}
 use Rattle.tree_check.specs.Chains.{placeMemory, ChainScanned}
 use Rattle.tree_check.specs.Laws.Regions.{levels, sound-below, levels-below, shallow-depth}
-use Rattle.tree_check.specs.Laws.Trees.{inLeaf, chain-ready, ready-again, leaf-over, leaf-scanned, no-split, no-group, seen-group, group-ready, branch-scanned, branch-count, leaf-count, group-read}
+use Rattle.tree_check.specs.Laws.Trees.{inLeaf, chain-ready, ready-again, empty-found, leaf-over, leaf-scanned, no-split, no-group, seen-group, group-ready, branch-scanned, branch-count, leaf-count, group-read}
 use Rattle.tree_check.specs.Laws.Groups.{no-children, child-bad, child-scanned}
 use Rattle.tree_check.specs.Laws.Checks.{tree-yes, tree-no}
 use borrow.Author.Needs.{needs}
-use mathlib.Core.Bool.{false, _&&_}
-use borrow.Author.Tests.{not-true, not-false, ltb-true, ltb-false}
-use Rattle.model.specs.Memory.{countAt}
-use Prim.Native.Nat.{ℕ, _≤_, _+_, _-_, _*_}
-use Rattle.tree_check.specs.Laws.Regions.{levels}
-use Prim.Native.Nat.{_*_, _-_, _+_}
-use Prim.Native.Nat.{ℕ}
 use borrow.Fn.Kinds.{In}
 use borrow.Fn.PlainCycle.{Measures, is, falls, and}
 use Rattle.tree_check.proofs.tree.check_group.Reads as check-group
@@ -36,6 +29,7 @@ use Rattle.memory.proofs.node.Node.is_branch.Reads as is-branch-reads
 use Rattle.memory.proofs.words.node_at.Reads as node-at-reads
 use Rattle.tree_check.proofs.chain.check_chain.Reads as check-chain-reads
 use Rattle.tree_check.proofs.free.group_at.Reads as group-at-reads
+use Rattle.tree_check.proofs.free.is_empty.Reads as is-empty-reads
 use Rattle.tree_check.proofs.region.Region.below.Reads as below-reads
 use Rattle.tree_check.proofs.region.Region.may_split.Reads as may-split-reads
 use Rattle.tree_check.proofs.tree.+check_group+check_node.{statement}
@@ -65,7 +59,7 @@ check-node-below t =
 
 -- what each member's calls ask and give
 abbrev group-calls : ℕ → check-group-lts.Claims
-group-calls t = (below-reads.Asked, below-reads.Learnt, check-node-below t, check-node.Post, check-group-below t, check-group.Post)
+group-calls t = (is-empty-reads.Asked, is-empty-reads.Learnt, check-group-below t, check-group.Post, below-reads.Asked, below-reads.Learnt, check-node-below t, check-node.Post)
 
 abbrev node-calls : ℕ → check-node-lts.Claims
 node-calls t = (node-at-reads.Asked, node-at-reads.Learnt, may-split-reads.Asked, may-split-reads.Learnt, is-branch-reads.Asked, is-branch-reads.Learnt, group-at-reads.Asked, group-at-reads.Learnt, check-group-below t, check-group.Post, check-chain-reads.Asked, check-chain-reads.Learnt)
@@ -76,77 +70,104 @@ check-group-returns t c = no-children _ _ _ _ _ _ _ (c .before .before .before .
 check-group-sub-child : (t : ℕ) → check-group-lts.Need-sub-child (group-calls t) (check-group-at t) check-group.Post
 check-group-sub-child t c = omega (arith, c .if1 .left)
 
-check-group-below-requires : (t : ℕ) → check-group-lts.Need-below-requires (group-calls t) (check-group-at t) check-group.Post
-check-group-below-requires t c κs =
-    let given = c .before .before .before .before .pre .1 .1 in (given .sound .cell, shallow-depth _ (given .sound) (given .splits))
+check-group-mul-node : (t : ℕ) → check-group-lts.Need-mul-node (group-calls t) (check-group-at t) check-group.Post
+check-group-mul-node t c =
+    let c4 = c .before .before .before .before in
+    omega (arith, c4 .pre .1 .0 .groupsFit, c4 .pre .1 .1 .within)
 
-check-group-mul-check-node : (t : ℕ) → check-group-lts.Need-mul-check-node (group-calls t) (check-group-at t) check-group.Post
-check-group-mul-check-node t c =
-    let c6 = c .before .before .before .before .before .before in
-    omega (arith, c6 .pre .1 .0 .groupsFit, c6 .pre .1 .1 .within)
+check-group-add-node : (t : ℕ) → check-group-lts.Need-add-node (group-calls t) (check-group-at t) check-group.Post
+check-group-add-node t c =
+    let c4 = c .before .before .before .before in
+    omega (arith, c4 .pre .1 .0 .groupsFit, c4 .pre .1 .1 .within)
 
-check-group-add-check-node : (t : ℕ) → check-group-lts.Need-add-check-node (group-calls t) (check-group-at t) check-group.Post
-check-group-add-check-node t c =
-    let c6 = c .before .before .before .before .before .before in
-    omega (arith, c6 .pre .1 .0 .groupsFit, c6 .pre .1 .1 .within)
+check-group-cast-node : (t : ℕ) → check-group-lts.Need-cast-node (group-calls t) (check-group-at t) check-group.Post
+check-group-cast-node t c = omega (arith, c .before .before .before .before .pre .1 .1 .five)
 
-check-group-cast-check-node : (t : ℕ) → check-group-lts.Need-cast-check-node (group-calls t) (check-group-at t) check-group.Post
-check-group-cast-check-node t c = omega (arith, c .before .before .before .before .before .before .pre .1 .1 .five)
+check-group-add-node-2 : (t : ℕ) → check-group-lts.Need-add-node-2 (group-calls t) (check-group-at t) check-group.Post
+check-group-add-node-2 t c =
+    let c4 = c .before .before .before .before in
+    omega (arith, c4 .pre .1 .0 .groupsFit, c4 .pre .1 .1 .within, c4 .pre .1 .1 .five)
 
-check-group-add-check-node-2 : (t : ℕ) → check-group-lts.Need-add-check-node-2 (group-calls t) (check-group-at t) check-group.Post
-check-group-add-check-node-2 t c =
-    let c6 = c .before .before .before .before .before .before in
-    omega (arith, c6 .pre .1 .0 .groupsFit, c6 .pre .1 .1 .within, c6 .pre .1 .1 .five)
-
-check-group-check-node-requires : (t : ℕ) → check-group-lts.Need-check-node-requires (group-calls t) (check-group-at t) check-group.Post
-check-group-check-node-requires t c κs =
-    let c1 = c .before in
-    let c2 = c1 .before in
-    let c6 = c2 .before .before .before .before in
-    let given = c6 .pre .1 .1 in
-    let below = c1 .below .ensures in (
-      omega (arith, c6 .pre .0, levels-below (c6 .args .region) (c6 .args .left - 1) (given .sound) (given .splits), ap levels below),
-      (c6 .pre .1 .0, subst Sound (sym below) (sound-below _ _ (given .sound)), omega (arith, given .within, given .five, c2 .if1 .left)),
-    )
+check-group-is-empty-requires : (t : ℕ) → check-group-lts.Need-is-empty-requires (group-calls t) (check-group-at t) check-group.Post
+check-group-is-empty-requires t c κs =
+    let c4 = c .before .before .before .before in
+    omega (arith, c4 .pre .1 .0 .nodeRoom, c4 .pre .1 .1 .within, c4 .pre .1 .1 .five, c .if1 .left)
 
 check-group-check-group-requires : (t : ℕ) → check-group-lts.Need-check-group-requires (group-calls t) (check-group-at t) check-group.Post
 check-group-check-group-requires t c κs =
-    let c1 = c .before in
-    let c4 = c1 .before .before .before in
-    let c6 = c4 .before .before in
-    let c7 = c6 .before in
-    let c11 = c7 .before .before .before .before in
-    let given = c11 .pre .1 .1 in
-    let found = tree-yes (c6 .below .ensures) (c4 .check-node .result) (c1 .if2 .taken) (c4 .check-node .ensures) in (
-      omega (arith, c11 .pre .0, c7 .if1 .left),
-      (ready-again (c11 .pre .1 .0) (found .ready), record { sound = given .sound; splits = given .splits; within = given .within; five = omega (arith, given .five) }),
+    let c3 = c .before .before .before in
+    let c7 = c3 .before .before .before .before in
+    let given = c7 .pre .1 .1 in (
+      omega (arith, c7 .pre .0, c3 .if1 .left),
+      (c7 .pre .1 .0, record { sound = given .sound; splits = given .splits; within = given .within; five = omega (arith, given .five) }),
     )
 
 check-group-same-length : (t : ℕ) → check-group-lts.Need-same-length (group-calls t) (check-group-at t) check-group.Post
-check-group-same-length t c =
-    let c2 = c .before .before in
-    let c7 = c2 .before .before .before .before .before in
-    c2 .check-group .kept .1 .1 .1 .0 ∙ c7 .check-node .kept .1 .1 .1 .0
+check-group-same-length t c = c .before .before .check-group .kept .1 .1 .1 .0
 
 check-group-returns-2 : (t : ℕ) → check-group-lts.Need-returns-2 (group-calls t) (check-group-at t) check-group.Post
 check-group-returns-2 t c =
     let c2 = c .before .before in
     let c4 = c2 .before .before in
-    let c7 = c4 .before .before .before in
-    let c9 = c7 .before .before in
-    let c10 = c9 .before in
-    let found = tree-yes (c9 .below .ensures) (c7 .check-node .result) (c4 .if2 .taken) (c7 .check-node .ensures) in
-    child-scanned _ _ _ _ _ _ _ (c10 .if1 .left) _ found (c2 .check-group .result) _ (c2 .check-group .ensures)
+    let c5 = c4 .before in
+    let c6 = c5 .before in
+    let c10 = c6 .before .before .before .before in
+    let found = empty-found _ _ _ _ _ _ _ _ (c10 .pre .1 .0) (sym (c5 .is-empty .ensures) ∙ c4 .if2 .taken) in
+    child-scanned _ _ _ _ _ _ _ (c6 .if1 .left) _ found (c2 .check-group .result) _ (c2 .check-group .ensures)
+
+check-group-below-requires : (t : ℕ) → check-group-lts.Need-below-requires (group-calls t) (check-group-at t) check-group.Post
+check-group-below-requires t c κs =
+    let given = c .before .before .before .before .before .before .pre .1 .1 in (given .sound .cell, shallow-depth _ (given .sound) (given .splits))
+
+check-group-check-node-requires : (t : ℕ) → check-group-lts.Need-check-node-requires (group-calls t) (check-group-at t) check-group.Post
+check-group-check-node-requires t c κs =
+    let c1 = c .before in
+    let c4 = c1 .before .before .before in
+    let c8 = c4 .before .before .before .before in
+    let given = c8 .pre .1 .1 in
+    let below = c1 .below .ensures in (
+      omega (arith, c8 .pre .0, levels-below (c8 .args .region) (c8 .args .left - 1) (given .sound) (given .splits), ap levels below),
+      (c8 .pre .1 .0, subst Sound (sym below) (sound-below _ _ (given .sound)), omega (arith, given .within, given .five, c4 .if1 .left)),
+    )
+
+check-group-check-group-requires-2 : (t : ℕ) → check-group-lts.Need-check-group-requires-2 (group-calls t) (check-group-at t) check-group.Post
+check-group-check-group-requires-2 t c κs =
+    let c1 = c .before in
+    let c4 = c1 .before .before .before in
+    let c6 = c4 .before .before in
+    let c9 = c6 .before .before .before in
+    let c13 = c9 .before .before .before .before in
+    let given = c13 .pre .1 .1 in
+    let found = tree-yes (c6 .below .ensures) (c4 .check-node .result) (c1 .if3 .taken) (c4 .check-node .ensures) in (
+      omega (arith, c13 .pre .0, c9 .if1 .left),
+      (ready-again (c13 .pre .1 .0) (found .ready), record { sound = given .sound; splits = given .splits; within = given .within; five = omega (arith, given .five) }),
+    )
 
 check-group-same-length-2 : (t : ℕ) → check-group-lts.Need-same-length-2 (group-calls t) (check-group-at t) check-group.Post
-check-group-same-length-2 t c = c .before .before .before .check-node .kept .1 .1 .1 .0
+check-group-same-length-2 t c =
+    let c2 = c .before .before in
+    let c7 = c2 .before .before .before .before .before in
+    c2 .check-group2 .kept .1 .1 .1 .0 ∙ c7 .check-node .kept .1 .1 .1 .0
 
 check-group-returns-3 : (t : ℕ) → check-group-lts.Need-returns-3 (group-calls t) (check-group-at t) check-group.Post
 check-group-returns-3 t c =
+    let c2 = c .before .before in
+    let c4 = c2 .before .before in
+    let c7 = c4 .before .before .before in
+    let c9 = c7 .before .before in
+    let c12 = c9 .before .before .before in
+    let found = tree-yes (c9 .below .ensures) (c7 .check-node .result) (c4 .if3 .taken) (c7 .check-node .ensures) in
+    child-scanned _ _ _ _ _ _ _ (c12 .if1 .left) _ found (c2 .check-group2 .result) _ (c2 .check-group2 .ensures)
+
+check-group-same-length-3 : (t : ℕ) → check-group-lts.Need-same-length-3 (group-calls t) (check-group-at t) check-group.Post
+check-group-same-length-3 t c = c .before .before .before .check-node .kept .1 .1 .1 .0
+
+check-group-returns-4 : (t : ℕ) → check-group-lts.Need-returns-4 (group-calls t) (check-group-at t) check-group.Post
+check-group-returns-4 t c =
     let c3 = c .before .before .before in
     let c5 = c3 .before .before in
-    let c6 = c5 .before in
-    child-bad _ _ _ _ _ _ _ (c6 .if1 .left) _ (tree-no _ _ _ _ _ _ (c5 .below .ensures) (c3 .check-node .result) (c .if2 .left) (c3 .check-node .ensures))
+    let c8 = c5 .before .before .before in
+    child-bad _ _ _ _ _ _ _ (c8 .if1 .left) _ (tree-no _ _ _ _ _ _ (c5 .below .ensures) (c3 .check-node .result) (c .if3 .left) (c3 .check-node .ensures))
 
 check-node-node-at-requires : (t : ℕ) → check-node-lts.Need-node-at-requires (node-calls t) (check-node-at t) check-node.Post
 check-node-node-at-requires t c κs =
@@ -300,17 +321,21 @@ pub +check-group+check-node-spec : {M : Type 1} → statement M
     check-group.Post
     (check-group-returns t)
     (check-group-sub-child t)
-    (check-group-below-requires t)
-    (check-group-mul-check-node t)
-    (check-group-add-check-node t)
-    (check-group-cast-check-node t)
-    (check-group-add-check-node-2 t)
-    (check-group-check-node-requires t)
+    (check-group-mul-node t)
+    (check-group-add-node t)
+    (check-group-cast-node t)
+    (check-group-add-node-2 t)
+    (check-group-is-empty-requires t)
     (check-group-check-group-requires t)
     (check-group-same-length t)
     (check-group-returns-2 t)
+    (check-group-below-requires t)
+    (check-group-check-node-requires t)
+    (check-group-check-group-requires-2 t)
     (check-group-same-length-2 t)
-    (check-group-returns-3 t))
+    (check-group-returns-3 t)
+    (check-group-same-length-3 t)
+    (check-group-returns-4 t))
     λ t. check-node-lts.spec (node-calls t)
     (check-node-at t)
     check-node.Post

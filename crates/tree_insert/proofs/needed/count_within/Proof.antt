@@ -19,15 +19,20 @@ Inv-loop dots rects bounds at₀ left₀ count₀ at left count = (count + left 
 abbrev μ-loop : tie.MeasureT-loop
 μ-loop dots rects bounds at₀ left₀ count₀ at left count = left
 
-here : (c : tie.In-loop Inv-loop μ-loop) → HasPlace (c .before .before .before .args .dots .now) (c .before .loop .at) × HasRect (c .before .before .before .args .rects .now) (c .before .loop .at)
+here : (c : tie.In-loop Inv-loop μ-loop) → let args = c .before .before .before .args in
+    HasPlace (args .dots .now) (c .before .loop .at) × HasRect (args .rects .now) (c .before .loop .at)
 here c =
-    let t = c .before .loop .inv .1 (c .before .before .before .pre .chain) (c .before .before .before .pre .standing) in
-    standing-here (c .before .before .before .args .dots .now) (c .before .before .before .args .rects .now) (c .before .loop .at) (c .before .loop .left) (t .0) (t .1) (c .loop-test .taken)
+    let pre = c .before .before .before .pre in
+    let args = c .before .before .before .args in
+    let t = c .before .loop .inv .1 (pre .chain) (pre .standing) in
+    standing-here (args .dots .now) (args .rects .now) (c .before .loop .at) (c .before .loop .left) (t .0) (t .1) (c .loop-test .taken)
 
 -- where the branches meet
-counted : (c : tie.Joined1 Inv-loop μ-loop) → c .if1 .count ≡ c .before .before .before .before .loop .count + cond (inBounds (c .before .before .before .before .before .before .args .bounds) (rectAt (c .before .before .before .before .before .before .args .rects .now) (c .before .before .before .before .loop .at))) 1 0
+counted : (c : tie.Joined1 Inv-loop μ-loop) → let args = c .before .before .before .before .before .before .args in let loop = c .before .before .before .before .loop in
+    c .if1 .count ≡ loop .count + cond (inBounds (args .bounds) (rectAt (args .rects .now) (loop .at))) 1 0
 counted c =
-    let told = c .before .holds .ensures ∙ ap (inBounds (c .before .before .before .before .before .before .args .bounds)) (c .before .before .rect-at .ensures) in
+    let args = c .before .before .before .before .before .before .args in
+    let told = c .before .holds .ensures ∙ ap (inBounds (args .bounds)) (c .before .before .rect-at .ensures) in
     let n = c .before .before .before .before .loop .count in
     ⊎-elim
     (λ w. w .1 ∙ ap (λ (b : Bool). n + cond b 1 0) (sym (sym told ∙ w .0 .taken)))
@@ -47,7 +52,9 @@ holds-requires : tie.Need-holds-requires Inv-loop μ-loop
 holds-requires c κs = search needs
 
 add-count : tie.Need-add-count Inv-loop μ-loop
-add-count c = let f : c .before .before .before .before .before .before .args .chain .count < 4294967296 = search needs in omega (arith, c .before .before .before .before .loop .inv .0, c .before .before .before .loop-test .taken)
+add-count c =
+    let args = c .before .before .before .before .before .before .args in
+    let f : args .chain .count < 4294967296 = search needs in omega (arith, c .before .before .before .before .loop .inv .0, c .before .before .before .loop-test .taken)
 
 next-at-requires : tie.Need-next-at-requires Inv-loop μ-loop
 next-at-requires c κs = here (c .before .before .before) .0
@@ -59,13 +66,18 @@ loop-less : tie.Need-loop-less Inv-loop μ-loop
 loop-less c = omega (arith, c .before .before .before .before .loop-test .taken)
 
 loop-again : tie.Need-loop-again Inv-loop μ-loop
-loop-again c = (
-  omega (arith, counted (c .before), one-most (inBounds (c .before .before .before .before .before .before .before .args .bounds) (rectAt (c .before .before .before .before .before .before .before .args .rects .now) (c .before .before .before .before .before .loop .at))), c .before .before .before .before .before .loop .inv .0, c .before .before .before .before .loop-test .taken),
-  tally-on (c .before .before .before .before .before .before .before .args .dots .now) (c .before .before .before .before .before .before .before .args .rects .now) (c .before .before .before .before .before .before .before .args .bounds) (c .before .before .before .before .before .before .before .args .chain .first) (c .before .before .before .before .before .before .before .args .chain .count) (c .before .before .before .before .before .loop .at) (c .before .before .before .before .before .loop .left) (c .before .before .before .before .before .loop .count) (c .next-at .result) (c .before .if1 .count) (c .before .before .before .before .before .loop .inv .1) (c .before .before .before .before .loop-test .taken) (c .next-at .ensures) (counted (c .before)),
-)
+loop-again c =
+    let args = c .before .before .before .before .before .before .before .args in
+    let loop = c .before .before .before .before .before .loop in
+    let loop-test = c .before .before .before .before .loop-test in (
+      omega (arith, counted (c .before), one-most (inBounds (args .bounds) (rectAt (args .rects .now) (loop .at))), loop .inv .0, loop-test .taken),
+      tally-on (args .dots .now) (args .rects .now) (args .bounds) (args .chain .first) (args .chain .count) (loop .at) (loop .left) (loop .count) (c .next-at .result) (c .before .if1 .count) (loop .inv .1) (loop-test .taken) (c .next-at .ensures) (counted (c .before)),
+    )
 
 returns : tie.Need-returns Inv-loop μ-loop
-returns c = tally-over (c .before .before .before .args .dots .now) (c .before .before .before .args .rects .now) (c .before .before .before .args .bounds) (c .before .before .before .args .chain .first) (c .before .before .before .args .chain .count) (c .before .loop .at) (c .before .loop .left) (c .before .loop .count) (c .before .loop .inv .1) (omega (arith, c .loop-test .left))
+returns c =
+    let args = c .before .before .before .args in
+    tally-over (args .dots .now) (args .rects .now) (args .bounds) (args .chain .first) (args .chain .count) (c .before .loop .at) (c .before .loop .left) (c .before .loop .count) (c .before .loop .inv .1) (omega (arith, c .loop-test .left))
 
 pub count-within-spec : {M : Type 1} → statement M
 count-within-spec =

@@ -16,14 +16,20 @@ abbrev μ-loop : tie.MeasureT-loop
 
 here : (c : tie.Else1 Inv-loop μ-loop) → HasNode (c .before .before .before .before .args .nodes .now) (c .before .before .loop .at)
 unfolding none
-here c = let w = c .before .before .loop .inv (c .before .before .before .before .pre .free) (c .before .before .before .before .pre .listed) in free-here (c .before .before .before .before .args .nodes .now) (c .before .before .loop .at) (w .0) (w .1) (c .if1 .left)
+here c =
+    let pre = c .before .before .before .before .pre in
+    let loop = c .before .before .loop in
+    let w = loop .inv (pre .free) (pre .listed) in free-here (c .before .before .before .before .args .nodes .now) (loop .at) (w .0) (w .1) (c .if1 .left)
 
 loop-holds : tie.Need-loop-holds Inv-loop μ-loop
 loop-holds c = λ free f. (free, f, refl)
 
 returns : tie.Need-returns Inv-loop μ-loop
 unfolding none
-returns c = free-short (c .before .before .before .before .args .nodes .now) (c .before .before .before .before .args .head) (c .before .before .before .before .args .wanted) (c .before .before .loop .at) (c .before .before .loop .left) (c .before .before .loop .inv) (c .before .loop-test .taken) (c .if1 .taken)
+returns c =
+    let args = c .before .before .before .before .args in
+    let loop = c .before .before .loop in
+    free-short (args .nodes .now) (args .head) (args .wanted) (loop .at) (loop .left) (loop .inv) (c .before .loop-test .taken) (c .if1 .taken)
 
 cast-node-at : tie.Need-cast-node-at Inv-loop μ-loop
 cast-node-at c = omega (arith, here c)
@@ -39,10 +45,15 @@ loop-less c = omega (arith, c .before .before .loop-test .taken)
 
 loop-again : tie.Need-loop-again Inv-loop μ-loop
 unfolding none
-loop-again c = free-on (c .before .before .before .before .before .args .nodes .now) (c .before .before .before .before .before .args .head) (c .before .before .before .before .before .args .wanted) (c .before .before .before .loop .at) (c .before .before .before .loop .left) (c .node-at .result .first) (c .before .before .before .loop .inv) (c .before .before .loop-test .taken) (c .before .if1 .left) (ap (λ (v : Node). v .first) (c .node-at .ensures))
+loop-again c =
+    let args = c .before .before .before .before .before .args in
+    let loop = c .before .before .before .loop in
+    free-on (args .nodes .now) (args .head) (args .wanted) (loop .at) (loop .left) (c .node-at .result .first) (loop .inv) (c .before .before .loop-test .taken) (c .before .if1 .left) (ap (λ (v : Node). v .first) (c .node-at .ensures))
 
 returns-2 : tie.Need-returns-2 Inv-loop μ-loop
-returns-2 c = free-enough (c .before .before .before .args .nodes .now) (c .before .before .before .args .head) (c .before .before .before .args .wanted) (c .before .loop .at) (c .before .loop .left) (c .before .loop .inv) (omega (arith, c .loop-test .left))
+returns-2 c =
+    let args = c .before .before .before .args in
+    free-enough (args .nodes .now) (args .head) (args .wanted) (c .before .loop .at) (c .before .loop .left) (c .before .loop .inv) (omega (arith, c .loop-test .left))
 
 pub has-free-spec : {M : Type 1} → statement M
 has-free-spec =

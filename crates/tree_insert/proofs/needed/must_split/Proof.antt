@@ -10,7 +10,9 @@ can-split-further-requires : tie.Need-can-split-further-requires
 can-split-further-requires c κs = search needs
 
 returns : tie.Need-returns
-returns c = ap (λ (b : Bool). b && leb (c .before .before .args .settings .«leaf_limit») (c .before .before .args .count)) (c .before .can-split-further .ensures)
+returns c =
+    let args = c .before .before .args in
+    ap (λ (b : Bool). b && leb (args .settings .«leaf_limit») (args .count)) (c .before .can-split-further .ensures)
 
 pub must-split-spec : {M : Type 1} → statement M
 must-split-spec = tie.close (tie.spec can-split-further-requires returns)

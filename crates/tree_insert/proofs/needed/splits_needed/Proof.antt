@@ -21,24 +21,31 @@ abbrev μ-loop : tie.MeasureT-loop
 μ-loop settings dots rects chain rect reached₀ bounds₀ count₀ splits₀ reached bounds count splits = stepsLeft reached
 
 -- the leaf reached is full and may split
-full : (c : tie.Then1 Inv-loop μ-loop) → maySplit (c .before .before .before .before .before .args .settings) (c .before .before .loop .reached) && leb (c .before .before .before .before .before .args .settings .«leaf_limit») (c .before .before .loop .count) ≡ true
+full : (c : tie.Then1 Inv-loop μ-loop) → let args = c .before .before .before .before .before .args in let loop = c .before .before .loop in
+    maySplit (args .settings) (loop .reached) && leb (args .settings .«leaf_limit») (loop .count) ≡ true
 full c = sym (c .before .must-split .ensures) ∙ c .if1 .taken
 
-above : (c : tie.Then1 Inv-loop μ-loop) → (c .before .before .loop .reached .«is_child_0» ≡ false) × (c .before .before .loop .reached .depth < 255)
+above : (c : tie.Then1 Inv-loop μ-loop) → let loop = c .before .before .loop in
+    (loop .reached .«is_child_0» ≡ false) × (loop .reached .depth < 255)
 above c =
-    need-above (c .before .before .before .before .before .args .settings) (c .before .before .before .before .before .args .dots .now) (c .before .before .before .before .before .args .rects .now) (c .before .before .before .before .before .args .chain) (c .before .before .before .before .before .args .node-data) (c .before .before .before .before .before .args .rect) (c .before .before .loop .reached) (c .before .before .loop .bounds) (c .before .before .loop .count) (c .before .before .loop .splits)
-    (c .before .before .loop .inv .2) (c .before .before .before .before .before .pre .settings) (full c)
+    let args = c .before .before .before .before .before .args in
+    let loop = c .before .before .loop in
+    need-above (args .settings) (args .dots .now) (args .rects .now) (args .chain) (args .node-data) (args .rect) (loop .reached) (loop .bounds) (loop .count) (loop .splits)
+    (loop .inv .2) (c .before .before .before .before .before .pre .settings) (full c)
 
 falls : (c : tie.After-child Inv-loop μ-loop) → stepsLeft (c .child .result) < stepsLeft (c .before .before .before .before .before .before .loop .reached)
 falls c =
+    let loop = c .before .before .before .before .before .before .loop in
     let a = above (c .before .before .before .before) in
-    subst (λ (n : NodeData). stepsLeft n < stepsLeft (c .before .before .before .before .before .before .loop .reached)) (sym (c .child .ensures)) (steps-fall (c .before .before .before .before .before .before .loop .reached) (c .before .before .route .result) (a .0) (a .1))
+    subst (λ (n : NodeData). stepsLeft n < stepsLeft (loop .reached)) (sym (c .child .ensures)) (steps-fall (loop .reached) (c .before .before .route .result) (a .0) (a .1))
 
 all-requires : tie.Need-all-requires Inv-loop μ-loop
 all-requires c κs = search needs
 
 loop-holds : tie.Need-loop-holds Inv-loop μ-loop
-loop-holds c = (c .before .before .pre .range, omega arith, need-start (c .before .before .args .settings) (c .before .before .args .dots .now) (c .before .before .args .rects .now) (c .before .before .args .chain) (c .before .before .args .node-data) (c .before .before .args .rect) (c .all .result) (c .all .ensures))
+loop-holds c =
+    let args = c .before .before .args in
+    (c .before .before .pre .range, omega arith, need-start (args .settings) (args .dots .now) (args .rects .now) (args .chain) (args .node-data) (args .rect) (c .all .result) (c .all .ensures))
 
 must-split-requires : tie.Need-must-split-requires Inv-loop μ-loop
 must-split-requires c κs = search needs
@@ -53,25 +60,38 @@ child-requires : tie.Need-child-requires Inv-loop μ-loop
 child-requires c κs = (c .before .before .before .before .before .loop .inv .0, omega (arith, above (c .before .before .before) .1))
 
 count-within-requires : tie.Need-count-within-requires Inv-loop μ-loop
-count-within-requires c κs = record { chain = c .before .before .before .before .before .before .before .before .before .pre .chain; standing = c .before .before .before .before .before .before .before .before .before .pre .standing }
+count-within-requires c κs =
+    let pre = c .before .before .before .before .before .before .before .before .before .pre in
+    record { chain = pre .chain; standing = pre .standing }
 
 add-splits : tie.Need-add-splits Inv-loop μ-loop
-add-splits c = omega (arith, c .before .before .before .before .before .before .before .loop .inv .1, steps-most (c .before .before .before .before .before .before .before .before .before .before .args .node-data))
+add-splits c =
+    let args = c .before .before .before .before .before .before .before .before .before .before .args in
+    let loop = c .before .before .before .before .before .before .before .loop in
+    omega (arith, loop .inv .1, steps-most (args .node-data))
 
 loop-less : tie.Need-loop-less Inv-loop μ-loop
 loop-less c = falls (c .before)
 
 loop-again : tie.Need-loop-again Inv-loop μ-loop
 unfolding childData
-loop-again c = (
-  subst (λ (n : NodeData). InRange (n .cell)) (sym (c .before .child .ensures)) (child-range _ _ (c .before .before .before .before .before .before .before .loop .inv .0)),
-  omega (arith, falls (c .before), c .before .before .before .before .before .before .before .loop .inv .1),
-  need-on (c .before .before .before .before .before .before .before .before .before .before .args .settings) (c .before .before .before .before .before .before .before .before .before .before .args .dots .now) (c .before .before .before .before .before .before .before .before .before .before .args .rects .now) (c .before .before .before .before .before .before .before .before .before .before .args .chain) (c .before .before .before .before .before .before .before .before .before .before .args .node-data) (c .before .before .before .before .before .before .before .before .before .before .args .rect) (c .before .before .before .before .before .before .before .loop .reached) (c .before .before .before .before .before .before .before .loop .bounds) (c .before .before .before .before .before .before .before .loop .count) (c .before .before .before .before .before .before .before .loop .splits) (c .before .before .before .before .before .before .before .loop .inv .2) (c .before .before .before .before .before .before .before .before .before .before .pre .settings) (full (c .before .before .before .before .before))
-      (c .before .before .before .route .result) (c .before .child .result) (c .before .before .below .result) (c .count-within .result) (c .before .before .before .route .ensures) (c .before .child .ensures) (c .before .before .below .ensures) (c .count-within .ensures),
-)
+loop-again c =
+    let args = c .before .before .before .before .before .before .before .before .before .before .args in
+    let pre = c .before .before .before .before .before .before .before .before .before .before .pre in
+    let loop = c .before .before .before .before .before .before .before .loop in
+    let route = c .before .before .before .route in
+    let below = c .before .before .below in (
+      subst (λ (n : NodeData). InRange (n .cell)) (sym (c .before .child .ensures)) (child-range _ _ (loop .inv .0)),
+      omega (arith, falls (c .before), loop .inv .1),
+      need-on (args .settings) (args .dots .now) (args .rects .now) (args .chain) (args .node-data) (args .rect) (loop .reached) (loop .bounds) (loop .count) (loop .splits) (loop .inv .2) (pre .settings) (full (c .before .before .before .before .before))
+          (route .result) (c .before .child .result) (below .result) (c .count-within .result) (route .ensures) (c .before .child .ensures) (below .ensures) (c .count-within .ensures),
+    )
 
 returns : tie.Need-returns Inv-loop μ-loop
-returns c = need-done (c .before .before .before .before .before .args .settings) (c .before .before .before .before .before .args .dots .now) (c .before .before .before .before .before .args .rects .now) (c .before .before .before .before .before .args .chain) (c .before .before .before .before .before .args .node-data) (c .before .before .before .before .before .args .rect) (c .before .before .loop .reached) (c .before .before .loop .bounds) (c .before .before .loop .count) (c .before .before .loop .splits) (c .before .before .loop .inv .2) (c .before .before .before .before .before .pre .settings) (sym (c .before .must-split .ensures) ∙ c .if1 .left)
+returns c =
+    let args = c .before .before .before .before .before .args in
+    let loop = c .before .before .loop in
+    need-done (args .settings) (args .dots .now) (args .rects .now) (args .chain) (args .node-data) (args .rect) (loop .reached) (loop .bounds) (loop .count) (loop .splits) (loop .inv .2) (c .before .before .before .before .before .pre .settings) (sym (c .before .must-split .ensures) ∙ c .if1 .left)
 
 pub splits-needed-spec : {M : Type 1} → statement M
 splits-needed-spec =

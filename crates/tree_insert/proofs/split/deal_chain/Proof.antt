@@ -1,7 +1,7 @@
 -- A loop whose invariant is that dealing what is left is dealing the whole; the places left are counted.
 use mathlib.Core.Path.{_≡_, refl, ap, sym, _∙_, subst}
 use mathlib.Core.Bool.{false}
-use Prim.Native.Nat.{ℕ, _-_}
+use Prim.Native.Nat.{ℕ, _-_, _≤_}
 use native.Mathlib.Omega.{arith}
 use borrow.Author.Needs.{needs}
 use lib.ListN.{length}
@@ -25,18 +25,27 @@ abbrev μ-loop : tie.MeasureT-loop
 abbrev node : CenteredAABB → NodeData
 node cell = record { cell = cell; depth = 0; «is_child_0» = false }
 
+-- a place is left
+some : (c : tie.In-loop Inv-loop μ-loop) → 1 ≤ c .before .loop .left
+some c = omega (arith, c .loop-test .taken)
+
 -- what a turn asks, of the child that the rectangle goes to
 asks : (c : tie.In-loop Inv-loop μ-loop)
-    → Turn (c .before .loop .nodes) (c .before .loop .dots) (c .before .before .before .before .args .rects .now) (node (c .before .before .before .before .args .cell)) (c .before .before .before .before .args .group) (c .before .loop .at) (c .before .loop .left) (c .loop-test .taken) (routeCell (c .before .before .before .before .args .cell) (rectAt (c .before .before .before .before .args .rects .now) (c .before .loop .at)))
+    → let args = c .before .before .before .before .args in
+    Turn (c .before .loop .nodes) (c .before .loop .dots) (args .rects .now) (node (args .cell)) (args .group) (c .before .loop .at) (c .before .loop .left) (some c) (routeCell (args .cell) (rectAt (args .rects .now) (c .before .loop .at)))
 asks c =
-    deal-asks (c .before .loop .nodes) (c .before .loop .dots) (c .before .before .before .before .args .rects .now) (node (c .before .before .before .before .args .cell)) (c .before .before .before .before .args .group) (c .before .loop .at) (c .before .loop .left) (c .loop-test .taken)
-    (c .before .loop .inv .2 (node (c .before .before .before .before .args .cell)) refl (c .before .before .before .before .pre) .0)
+    let args = c .before .before .before .before .args in
+    deal-asks (c .before .loop .nodes) (c .before .loop .dots) (args .rects .now) (node (args .cell)) (args .group) (c .before .loop .at) (c .before .loop .left) (some c)
+    (c .before .loop .inv .2 (node (args .cell)) refl (c .before .before .before .before .pre) .0)
 
 asks-child : (c : tie.After-route Inv-loop μ-loop)
-    → Turn (c .before .before .before .before .before .loop .nodes) (c .before .before .before .before .before .loop .dots) (c .before .before .before .before .before .before .before .before .args .rects .now) (node (c .before .before .before .before .before .before .before .before .args .cell)) (c .before .before .before .before .before .before .before .before .args .group) (c .before .before .before .before .before .loop .at) (c .before .before .before .before .before .loop .left) (c .before .before .before .before .loop-test .taken) (c .route .result)
+    → let args = c .before .before .before .before .before .before .before .before .args in let loop = c .before .before .before .before .before .loop in
+    Turn (loop .nodes) (loop .dots) (args .rects .now) (node (args .cell)) (args .group) (loop .at) (loop .left) (some (c .before .before .before .before)) (c .route .result)
 asks-child c =
-    subst (λ (k : ℕ). Turn (c .before .before .before .before .before .loop .nodes) (c .before .before .before .before .before .loop .dots) (c .before .before .before .before .before .before .before .before .args .rects .now) (node (c .before .before .before .before .before .before .before .before .args .cell)) (c .before .before .before .before .before .before .before .before .args .group) (c .before .before .before .before .before .loop .at) (c .before .before .before .before .before .loop .left) (c .before .before .before .before .loop-test .taken) k)
-    (sym (c .route .ensures ∙ ap (routeCell (c .before .before .before .before .before .before .before .before .args .cell)) (c .before .rect-at .ensures))) (asks (c .before .before .before .before))
+    let args = c .before .before .before .before .before .before .before .before .args in
+    let loop = c .before .before .before .before .before .loop in
+    subst (λ (k : ℕ). Turn (loop .nodes) (loop .dots) (args .rects .now) (node (args .cell)) (args .group) (loop .at) (loop .left) (some (c .before .before .before .before)) k)
+    (sym (c .route .ensures ∙ ap (routeCell (args .cell)) (c .before .rect-at .ensures))) (asks (c .before .before .before .before))
 
 loop-holds : tie.Need-loop-holds Inv-loop μ-loop
 loop-holds c = (refl, refl, λ n e s. (s, refl))
@@ -63,18 +72,28 @@ push-place-requires : tie.Need-push-place-requires Inv-loop μ-loop
 push-place-requires c κs = let a = asks-child (c .before .before) in (a .node, a .place, omega (arith, a .count))
 
 sub-left : tie.Need-sub-left Inv-loop μ-loop
-sub-left c = omega (arith, c .before .before .before .before .before .before .before .before .before .before .before .loop-test .taken)
+sub-left c =
+    let loop-test = c .before .before .before .before .before .before .before .before .before .before .before .loop-test in
+    omega (arith, loop-test .taken)
 
 loop-less : tie.Need-loop-less Inv-loop μ-loop
-loop-less c = omega (arith, c .before .before .before .before .before .before .before .before .before .before .before .loop-test .taken)
+loop-less c =
+    let loop-test = c .before .before .before .before .before .before .before .before .before .before .before .loop-test in
+    omega (arith, loop-test .taken)
 
 loop-again : tie.Need-loop-again Inv-loop μ-loop
-loop-again c = (
-  ap length (c .before .before .before .before .push-place .ensures .0) ∙ node-length _ _ _ ∙ c .before .before .before .before .before .before .before .before .before .before .before .before .loop .inv .0,
-  ap length (c .before .before .before .before .push-place .ensures .1) ∙ next-length _ _ _ ∙ c .before .before .before .before .before .before .before .before .before .before .before .before .loop .inv .1,
-  deal-on (c .before .before .before .before .before .before .before .before .before .before .before .before .before .before .before .args .nodes .now) (c .before .before .before .before .before .before .before .before .before .before .before .before .before .before .before .args .dots .now) (c .before .before .before .before .before .before .before .before .before .before .before .before .before .before .before .args .rects .now) (c .before .before .before .before .before .before .before .before .before .before .before .before .before .before .before .args .cell) (c .before .before .before .before .before .before .before .before .before .before .before .before .before .before .before .args .group) (c .before .before .before .before .before .before .before .before .before .before .before .before .before .before .before .args .chain .first) (c .before .before .before .before .before .before .before .before .before .before .before .before .before .before .before .args .chain .count) (c .before .before .before .before .before .before .before .before .before .before .before .before .loop .nodes) (c .before .before .before .before .before .before .before .before .before .before .before .before .loop .dots) (c .before .before .before .before .before .before .before .before .before .before .before .before .loop .at) (c .before .before .before .before .before .before .before .before .before .before .before .before .loop .left) (c .before .before .before .before .before .before .before .before .before .before .before .before .loop .inv .2)
-      (c .before .before .before .before .before .before .before .before .before .before .before .loop-test .taken) (c .before .before .before .before .before .before .before .before .rect-at .result) (c .before .before .before .before .before .before .before .route .result) (c .before .before .before .before .before .before .before .before .before .next-at .result) _ _ (c .before .before .before .before .before .before .before .before .rect-at .ensures) (c .before .before .before .before .before .before .before .route .ensures) (c .before .before .before .before .before .before .before .before .before .next-at .ensures) (c .before .before .before .before .push-place .ensures .0) (c .before .before .before .before .push-place .ensures .1),
-)
+loop-again c =
+    let args = c .before .before .before .before .before .before .before .before .before .before .before .before .before .before .before .args in
+    let loop = c .before .before .before .before .before .before .before .before .before .before .before .before .loop in
+    let next-at = c .before .before .before .before .before .before .before .before .before .next-at in
+    let rect-at = c .before .before .before .before .before .before .before .before .rect-at in
+    let route = c .before .before .before .before .before .before .before .route in
+    let push-place = c .before .before .before .before .push-place in (
+      ap length (push-place .ensures .0) ∙ node-length _ _ _ ∙ loop .inv .0,
+      ap length (push-place .ensures .1) ∙ next-length _ _ _ ∙ loop .inv .1,
+      deal-on (args .nodes .now) (args .dots .now) (args .rects .now) (args .cell) (args .group) (args .chain .first) (args .chain .count) (loop .nodes) (loop .dots) (loop .at) (loop .left) (loop .inv .2)
+          (some (c .before .before .before .before .before .before .before .before .before .before .before)) (rect-at .result) (route .result) (next-at .result) _ _ (rect-at .ensures) (route .ensures) (next-at .ensures) (push-place .ensures .0) (push-place .ensures .1),
+    )
 
 same-length : tie.Need-same-length Inv-loop μ-loop
 same-length c = c .before .loop .inv .0
@@ -83,8 +102,10 @@ same-length-2 : tie.Need-same-length-2 Inv-loop μ-loop
 same-length-2 c = c .before .loop .inv .1
 
 returns : tie.Need-returns Inv-loop μ-loop
-returns c = λ n e s. let r = c .before .loop .inv .2 n e s in
-    sym (deal-over (c .before .loop .nodes) (c .before .loop .dots) (c .before .before .before .before .args .rects .now) n (c .before .before .before .before .args .group) (c .before .loop .at) (c .before .loop .left) (omega (arith, c .loop-test .left)) (r .0)) ∙ r .1
+returns c =
+    let args = c .before .before .before .before .args in
+    λ n e s. let r = c .before .loop .inv .2 n e s in
+    sym (deal-over (c .before .loop .nodes) (c .before .loop .dots) (args .rects .now) n (args .group) (c .before .loop .at) (c .before .loop .left) (omega (arith, c .loop-test .left)) (r .0)) ∙ r .1
 
 pub deal-chain-spec : {M : Type 1} → statement M
 deal-chain-spec =

@@ -15,7 +15,10 @@ set-next-requires : tie.Need-set-next-requires
 set-next-requires c κs = search needs
 
 add-t14 : tie.Need-add-t14
-add-t14 c = omega (arith, c .before .before .before .before .before .before .before .before .before .before .pre .2, ap (λ (v : Node). v .count) (c .before .before .before .before .before .before .node-at .ensures))
+add-t14 c =
+    let pre = c .before .before .before .before .before .before .before .before .before .before .pre in
+    let node-at = c .before .before .before .before .before .before .node-at in
+    omega (arith, pre .2, ap (λ (v : Node). v .count) (node-at .ensures))
 
 set-node-requires : tie.Need-set-node-requires
 set-node-requires c κs = search needs
@@ -27,10 +30,13 @@ same-length-2 : tie.Need-same-length-2
 same-length-2 c = search needs
 
 returns : tie.Need-returns
-returns c = (
-  c .before .before .set-node .ensures ∙ ap (λ (v : Node). setNodeAt (c .before .before .before .before .before .before .before .before .before .before .before .before .before .args .nodes .now) (c .before .before .before .before .before .before .before .before .before .before .before .before .before .args .node) (record { first = c .before .before .before .before .before .before .before .before .before .before .before .before .before .args .place; count = v .count + 1 })) (c .before .before .before .before .before .before .before .before .before .node-at .ensures),
-  c .before .before .before .before .before .before .before .set-next .ensures ∙ ap (λ (v : Node). setNextAt (c .before .before .before .before .before .before .before .before .before .before .before .before .before .args .dots .now) (c .before .before .before .before .before .before .before .before .before .before .before .before .before .args .place) (v .first)) (c .before .before .before .before .before .before .before .before .before .node-at .ensures),
-)
+returns c =
+    let args = c .before .before .before .before .before .before .before .before .before .before .before .before .before .args in
+    let node-at = c .before .before .before .before .before .before .before .before .before .node-at in
+    let set-next = c .before .before .before .before .before .before .before .set-next in (
+      c .before .before .set-node .ensures ∙ ap (λ (v : Node). setNodeAt (args .nodes .now) (args .node) (record { first = args .place; count = v .count + 1 })) (node-at .ensures),
+      set-next .ensures ∙ ap (λ (v : Node). setNextAt (args .dots .now) (args .place) (v .first)) (node-at .ensures),
+    )
 
 pub push-place-spec : {M : Type 1} → statement M
 push-place-spec =

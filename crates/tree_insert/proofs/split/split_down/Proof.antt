@@ -12,24 +12,31 @@ use Rattle.tree_insert.proofs.split.split_down.Statement.{statement}
 use Rattle.tree_insert.proofs.split.split_down.Tie as tie
 
 abbrev Inv-loop : tie.InvT-loop
-Inv-loop nodes₀ dots₀ rects group splits rect node₀ node-data₀ head₀ left₀ nodes dots node node-data head left =
-    (length nodes ≡ length nodes₀) × (length dots ≡ length dots₀) × Goes rect rects nodes₀ dots₀ head₀ node₀ node-data₀ left₀ nodes dots head node node-data left
+Inv-loop nodes₀ dots₀ rects group splits rect node₀ node-data₀ head₀ rest₀ nodes dots node node-data head rest =
+    (length nodes ≡ length nodes₀) × (length dots ≡ length dots₀) × Goes rect rects nodes₀ dots₀ head₀ node₀ node-data₀ rest₀ nodes dots head node node-data rest
 
 abbrev μ-loop : tie.MeasureT-loop
-μ-loop nodes₀ dots₀ rects group splits rect node₀ node-data₀ head₀ left₀ nodes dots node node-data head left = left
+μ-loop nodes₀ dots₀ rects group splits rect node₀ node-data₀ head₀ rest₀ nodes dots node node-data head rest = rest
 
 -- the insert that the function was called for
 going : (c : tie.In-loop Inv-loop μ-loop)
-    → Going (c .before .before .before .before .before .pre .shape) (c .before .before .before .before .before .pre .dot) (c .before .before .before .before .before .pre .placeHead) (c .before .loop .nodes) (c .before .loop .dots) (c .before .before .before .before .before .args .rects .now) (c .before .loop .head) (c .before .loop .node) (c .before .loop .node-data) (c .before .loop .left)
-going c = c .before .loop .inv .2 (c .before .before .before .before .before .pre .shape) (c .before .before .before .before .before .pre .dot) (c .before .before .before .before .before .pre .placeHead) (c .before .before .before .before .before .pre .rect) (c .before .before .before .before .before .pre .going)
+    → let pre = c .before .before .before .before .before .pre in
+    Going (pre .shape) (pre .dot) (pre .placeHead) (c .before .loop .nodes) (c .before .loop .dots) (c .before .before .before .before .before .args .rects .now) (c .before .loop .head) (c .before .loop .node) (c .before .loop .node-data) (c .before .loop .rest)
+going c =
+    let pre = c .before .before .before .before .before .pre in
+    c .before .loop .inv .2 (pre .shape) (pre .dot) (pre .placeHead) (pre .rect) (pre .going)
 
 here : (c : tie.In-loop Inv-loop μ-loop) → Splittable (c .before .loop .nodes) (c .before .loop .dots) (c .before .before .before .before .before .args .rects .now) (c .before .loop .node) (c .before .loop .head)
 here c =
-    go-splits (c .before .before .before .before .before .pre .shape) (c .before .before .before .before .before .pre .dot) (c .before .before .before .before .before .pre .placeHead) (c .before .loop .nodes) (c .before .loop .dots) (c .before .before .before .before .before .args .rects .now) (c .before .loop .head) (c .before .loop .node) (c .before .loop .node-data) (c .before .loop .left)
+    let pre = c .before .before .before .before .before .pre in
+    go-splits (pre .shape) (pre .dot) (pre .placeHead) (c .before .loop .nodes) (c .before .loop .dots) (c .before .before .before .before .before .args .rects .now) (c .before .loop .head) (c .before .loop .node) (c .before .loop .node-data) (c .before .loop .rest)
     (going c) (c .loop-test .taken)
 
 child5 : (c : tie.After-route Inv-loop μ-loop) → c .route .result < 5
-child5 c = omega (arith, c .route .ensures, route-child (c .before .before .before .before .before .before .before .before .before .before .loop .node-data) (c .before .before .before .before .before .before .before .before .before .before .before .before .before .before .args .rect))
+child5 c =
+    let args = c .before .before .before .before .before .before .before .before .before .before .before .before .before .before .args in
+    let loop = c .before .before .before .before .before .before .before .before .before .before .loop in
+    omega (arith, c .route .ensures, route-child (loop .node-data) (args .rect))
 
 loop-holds : tie.Need-loop-holds Inv-loop μ-loop
 loop-holds c = (refl, refl, λ x dot placeHead e g. g)
@@ -41,7 +48,9 @@ route-requires : tie.Need-route-requires Inv-loop μ-loop
 route-requires c κs = search needs
 
 cast-node : tie.Need-cast-node Inv-loop μ-loop
-cast-node c = omega (arith, here (c .before .before .before .before .before .before .before .before .before) .nodesIn, c .before .before .before .before .before .before .before .before .before .before .loop .inv .0)
+cast-node c =
+    let loop = c .before .before .before .before .before .before .before .before .before .before .loop in
+    omega (arith, here (c .before .before .before .before .before .before .before .before .before) .nodesIn, loop .inv .0)
 
 cast-node-2 : tie.Need-cast-node-2 Inv-loop μ-loop
 cast-node-2 c = omega (arith, child5 c)
@@ -50,26 +59,40 @@ add-node : tie.Need-add-node Inv-loop μ-loop
 add-node c = omega (arith, here (c .before .before .before .before .before .before .before .before .before) .nodesIn, child5 c)
 
 child-requires : tie.Need-child-requires Inv-loop μ-loop
-child-requires c κs = let g = going (c .before .before .before .before .before .before .before .before .before) in
-    (g .range, omega (arith, go-depth (c .before .before .before .before .before .before .before .before .before .before .before .before .before .before .pre .shape) (c .before .before .before .before .before .before .before .before .before .before .before .before .before .before .pre .dot) (c .before .before .before .before .before .before .before .before .before .before .before .before .before .before .pre .placeHead) (c .before .before .before .before .before .before .before .before .before .before .loop .nodes) (c .before .before .before .before .before .before .before .before .before .before .loop .dots) (c .before .before .before .before .before .before .before .before .before .before .before .before .before .before .args .rects .now) (c .before .before .before .before .before .before .before .before .before .before .loop .head) (c .before .before .before .before .before .before .before .before .before .before .loop .node) (c .before .before .before .before .before .before .before .before .before .before .loop .node-data) (c .before .before .before .before .before .before .before .before .before .before .loop .left) g (c .before .before .before .before .before .before .before .before .before .loop-test .taken)))
+child-requires c κs =
+    let pre = c .before .before .before .before .before .before .before .before .before .before .before .before .before .before .pre in
+    let args = c .before .before .before .before .before .before .before .before .before .before .before .before .before .before .args in
+    let loop = c .before .before .before .before .before .before .before .before .before .before .loop in
+    let loop-test = c .before .before .before .before .before .before .before .before .before .loop-test in
+    let g = going (c .before .before .before .before .before .before .before .before .before) in
+    (g .range, omega (arith, go-depth (pre .shape) (pre .dot) (pre .placeHead) (loop .nodes) (loop .dots) (args .rects .now) (loop .head) (loop .node) (loop .node-data) (loop .rest) g (loop-test .taken)))
 
-sub-left : tie.Need-sub-left Inv-loop μ-loop
-sub-left c = omega (arith, c .before .before .before .before .before .before .before .before .before .before .loop-test .taken)
+sub-rest : tie.Need-sub-rest Inv-loop μ-loop
+sub-rest c =
+    let loop-test = c .before .before .before .before .before .before .before .before .before .before .loop-test in
+    omega (arith, loop-test .taken)
 
 loop-less : tie.Need-loop-less Inv-loop μ-loop
-loop-less c = omega (arith, c .before .before .before .before .before .before .before .before .before .before .loop-test .taken)
+loop-less c =
+    let loop-test = c .before .before .before .before .before .before .before .before .before .before .loop-test in
+    omega (arith, loop-test .taken)
 
 loop-again : tie.Need-loop-again Inv-loop μ-loop
-loop-again c = let k = c .before .before .before .before .before .before .split-leaf .kept in (
-  k .0 ∙ c .before .before .before .before .before .before .before .before .before .before .before .loop .inv .0,
-  k .1 .0 ∙ c .before .before .before .before .before .before .before .before .before .before .before .loop .inv .1,
-  λ x dot placeHead e g.
-      let now = c .before .before .before .before .before .before .before .before .before .before .before .loop .inv .2 x dot placeHead e g in
-      go-on x dot placeHead (c .before .before .before .before .before .before .before .before .before .before .before .loop .nodes) (c .before .before .before .before .before .before .before .before .before .before .before .loop .dots) (c .before .before .before .before .before .before .before .before .before .before .before .before .before .before .before .args .rects .now) (c .before .before .before .before .before .before .before .before .before .before .before .loop .head) (c .before .before .before .before .before .before .before .before .before .before .before .loop .node) (c .before .before .before .before .before .before .before .before .before .before .before .loop .node-data) (c .before .before .before .before .before .before .before .before .before .before .before .loop .left) now (c .before .before .before .before .before .before .before .before .before .before .loop-test .taken)
-      (c .before .before .before .before .before .before .split-leaf .last .0) (c .before .before .before .before .before .before .split-leaf .last .1 .0) (c .before .before .before .before .before .before .split-leaf .result) (c .before .route .result) (c .child .result) (k .0) (k .1 .0)
-      (c .before .before .before .before .before .before .split-leaf .ensures .1 (c .before .before .before .before .before .before .before .before .before .before .before .loop .node-data) refl (go-splits x dot placeHead (c .before .before .before .before .before .before .before .before .before .before .before .loop .nodes) (c .before .before .before .before .before .before .before .before .before .before .before .loop .dots) (c .before .before .before .before .before .before .before .before .before .before .before .before .before .before .before .args .rects .now) (c .before .before .before .before .before .before .before .before .before .before .before .loop .head) (c .before .before .before .before .before .before .before .before .before .before .before .loop .node) (c .before .before .before .before .before .before .before .before .before .before .before .loop .node-data) (c .before .before .before .before .before .before .before .before .before .before .before .loop .left) now (c .before .before .before .before .before .before .before .before .before .before .loop-test .taken)))
-      (c .before .before .before .before .before .before .split-leaf .ensures .0) (c .before .route .ensures ∙ ap (routeCell (c .before .before .before .before .before .before .before .before .before .before .before .loop .node-data .cell)) (sym e)) (c .child .ensures),
-)
+loop-again c =
+    let args = c .before .before .before .before .before .before .before .before .before .before .before .before .before .before .before .args in
+    let loop = c .before .before .before .before .before .before .before .before .before .before .before .loop in
+    let loop-test = c .before .before .before .before .before .before .before .before .before .before .loop-test in
+    let split-leaf = c .before .before .before .before .before .before .split-leaf in
+    let k = split-leaf .kept in (
+      k .0 ∙ loop .inv .0,
+      k .1 .0 ∙ loop .inv .1,
+      λ x dot placeHead e g.
+          let now = loop .inv .2 x dot placeHead e g in
+          go-on x dot placeHead (loop .nodes) (loop .dots) (args .rects .now) (loop .head) (loop .node) (loop .node-data) (loop .rest) now (loop-test .taken)
+          (split-leaf .last .0) (split-leaf .last .1 .0) (split-leaf .result) (c .before .route .result) (c .child .result) (k .0) (k .1 .0)
+          (split-leaf .ensures .1 (loop .node-data) refl (go-splits x dot placeHead (loop .nodes) (loop .dots) (args .rects .now) (loop .head) (loop .node) (loop .node-data) (loop .rest) now (loop-test .taken)))
+          (split-leaf .ensures .0) (c .before .route .ensures ∙ ap (routeCell (loop .node-data .cell)) (sym e)) (c .child .ensures),
+    )
 
 same-length : tie.Need-same-length Inv-loop μ-loop
 same-length c = c .before .loop .inv .0
@@ -93,7 +116,7 @@ split-down-spec =
     cast-node-2
     add-node
     child-requires
-    sub-left
+    sub-rest
     loop-less
     loop-again
     same-length

@@ -11,7 +11,12 @@ take-group-requires : tie.Need-take-group-requires
 take-group-requires c κs = search needs
 
 deal-chain-requires : tie.Need-deal-chain-requires
-deal-chain-requires c κs = split-deals (c .before .before .before .before .before .before .before .before .before .before .args .nodes .now) (c .before .before .before .before .before .before .before .before .before .before .args .dots .now) (c .before .before .before .before .before .before .before .before .before .before .args .rects .now) (c .before .before .before .before .before .before .before .before .before .before .args .node) (c .before .before .before .before .before .before .before .before .before .before .args .group) (c .before .before .before .before .before .before .before .before .before .before .pre) (c .before .before .before .before .before .before .node-at .result) (c .before .before .before .before .before .before .node-at .ensures) (c .before .before .before .before .take-group .last .0) (c .before .before .before .before .take-group .ensures .1)
+deal-chain-requires c κs =
+    let args = c .before .before .before .before .before .before .before .before .before .before .args in
+    let pre = c .before .before .before .before .before .before .before .before .before .before .pre in
+    let node-at = c .before .before .before .before .before .before .node-at in
+    let take-group = c .before .before .before .before .take-group in
+    split-deals (args .nodes .now) (args .dots .now) (args .rects .now) (args .node) (args .group) (pre) (node-at .result) (node-at .ensures) (take-group .last .0) (take-group .ensures .1)
 
 same-length : tie.Need-same-length
 same-length c = search needs
@@ -20,10 +25,14 @@ same-length-2 : tie.Need-same-length-2
 same-length-2 c = search needs
 
 returns : tie.Need-returns
-returns c = (
-  c .before .before .before .before .before .before .before .before .before .take-group .ensures .0,
-  split-done (c .before .before .before .before .before .before .before .before .before .before .before .before .before .before .before .args .nodes .now) (c .before .before .before .before .before .before .before .before .before .before .before .before .before .before .before .args .dots .now) (c .before .before .before .before .before .before .before .before .before .before .before .before .before .before .before .args .rects .now) (c .before .before .before .before .before .before .before .before .before .before .before .before .before .before .before .args .node) (c .before .before .before .before .before .before .before .before .before .before .before .before .before .before .before .args .cell) (c .before .before .before .before .before .before .before .before .before .before .before .before .before .before .before .args .group) (c .before .before .before .before .before .before .before .before .before .before .before .node-at .result) (c .before .before .before .before .before .before .before .before .before .take-group .last .0) (c .before .before .before .before .deal-chain .last .0) (c .before .before .before .before .deal-chain .last .1 .0) (c .before .before .before .before .before .before .before .before .before .before .before .node-at .ensures) (c .before .before .before .before .before .before .before .before .before .take-group .ensures .1) (c .before .before .before .before .deal-chain .ensures),
-)
+returns c =
+    let args = c .before .before .before .before .before .before .before .before .before .before .before .before .before .before .before .args in
+    let node-at = c .before .before .before .before .before .before .before .before .before .before .before .node-at in
+    let take-group = c .before .before .before .before .before .before .before .before .before .take-group in
+    let deal-chain = c .before .before .before .before .deal-chain in (
+      take-group .ensures .0,
+      split-done (args .nodes .now) (args .dots .now) (args .rects .now) (args .node) (args .cell) (args .group) (node-at .result) (take-group .last .0) (deal-chain .last .0) (deal-chain .last .1 .0) (node-at .ensures) (take-group .ensures .1) (deal-chain .ensures),
+    )
 
 pub split-leaf-spec : {M : Type 1} → statement M
 split-leaf-spec =

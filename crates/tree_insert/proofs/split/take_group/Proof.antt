@@ -24,10 +24,13 @@ same-length c = search needs
 
 returns : tie.Need-returns
 unfolding branchMark
-returns c = (
-  ap (λ (v : Node). v .first) (c .before .before .before .before .before .before .before .before .before .node-at .ensures),
-  c .before .before .set-node2 .ensures ∙ (λ i. setNodeAt (c .before .before .before .before .before .before .before .set-node .ensures i) (c .before .before .before .before .before .before .before .before .before .before .before .before .args .group) (c .before .before .before .empty-leaf .ensures i)),
-)
+returns c =
+    let args = c .before .before .before .before .before .before .before .before .before .before .before .before .args in
+    let node-at = c .before .before .before .before .before .before .before .before .before .node-at in
+    let set-node = c .before .before .before .before .before .before .before .set-node in (
+      ap (λ (v : Node). v .first) (node-at .ensures),
+      c .before .before .set-node2 .ensures ∙ (λ i. setNodeAt (set-node .ensures i) (args .group) (c .before .before .before .empty-leaf .ensures i)),
+    )
 
 pub take-group-spec : {M : Type 1} → statement M
 take-group-spec =
