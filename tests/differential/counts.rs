@@ -36,12 +36,15 @@ const FLOORS: [(usize, Ended, u64); 20] = [
     (5, Yes, 6_000),
     (6, Accepted, 9_000),
 ];
+// Live dots at once, at least in one list.
+const MOST_LIVE: u64 = 2_000;
 // Below this many calls no floor is asked.
 const ENOUGH: u64 = 200_000;
 
 #[derive(Default)]
 pub struct Counts {
     pub calls: u64,
+    most_live: u64,
     figures: [u64; FLOORS.len()],
 }
 
@@ -75,6 +78,10 @@ impl Counts {
         }
     }
 
+    pub fn tell_live(&mut self, live: u64) {
+        self.most_live = self.most_live.max(live);
+    }
+
     fn floor(&self, i: usize) -> u64 {
         if self.calls < ENOUGH { 0 } else { FLOORS[i].2 * self.calls / 1_000_000 }
     }
@@ -86,10 +93,11 @@ impl Counts {
             let parts: Vec<String> = shown.map(|i| format!("{} {} (floor {})", FLOORS[i].1.text(), self.figures[i], self.floor(i))).collect();
             println!("  {name}: {}", parts.join(", "));
         }
+        println!("  live dots at once: up to {} (floor {MOST_LIVE})", self.most_live);
         let short = (0..FLOORS.len()).find(|i| self.figures[*i] < self.floor(*i));
         if let Some(i) = short {
             println!("differential: too few of a kind: {} {}", KINDS[FLOORS[i].0], FLOORS[i].1.text());
         }
-        short.is_none()
+        short.is_none() && (self.most_live >= MOST_LIVE || self.calls < ENOUGH)
     }
 }

@@ -2,11 +2,13 @@
 //     differential [CALLS [SEED]]     random and adversarial lists; prints the figures, and fails below their floors
 //     differential --faults           plants faults, and fails where one is not found
 //     differential --record           writes a fixed list with the original's answers
+//     differential --differences      where the two differ on purpose (docs/DIFFERENCES.md)
 //     differential --damaged          rows of wrong lengths, settings out of range and damaged trees, which every call turns down
 mod calls;
 mod compare;
 mod counts;
 mod damaged;
+mod differences;
 mod faults;
 mod geometry;
 #[path = "../../host/rust/krakvinge.rs"]
@@ -44,6 +46,11 @@ pub mod quadtree {
         impl QuadTree<u32> {
             pub fn node_number(&self) -> usize {
                 self.nodes.len()
+            }
+
+            // Places that were ever made.
+            pub fn place_number(&self) -> usize {
+                self.element_ids.capacity()
             }
 
             pub fn words(&self, node: u32) -> [u32; 2] {
@@ -93,7 +100,13 @@ fn compare_lists(calls: u64, seed: u64) -> bool {
         let is_long = list.places > 1000;
         long += is_long as u64;
         lists += 1;
-        let difference = compare::differ(&list, Fault::None, if is_long { 400 } else { 8 }, |call, answer| counts.tell(call, answer));
+        let mut live = 0;
+        let difference = compare::differ(&list, Fault::None, if is_long { 400 } else { 8 }, |call, answer| {
+            counts.tell(call, answer);
+            live += (call.kind() == 0 && answer.result == 0) as u64;
+            live -= (call.kind() == 1 && answer.words[0] == 1) as u64;
+            counts.tell_live(live);
+        });
         if difference.is_some() {
             println!("differential: DIFFERENCE, list {lists} of seed {seed}, made smaller:\n{}", compare::show(&list, Fault::None));
             return false;
@@ -164,6 +177,7 @@ fn main() {
         Some("--faults") => find_faults(),
         Some("--record") => record(),
         Some("--damaged") => damaged::turned_down(),
+        Some("--differences") => differences::as_documented(),
         _ => compare_lists(number(0, CALLS), number(1, SEED)),
     };
     if !passed {

@@ -81,9 +81,9 @@ impl Original {
             return Answer::refused(4, call);
         }
         let element = QuadTreeElement::new(id, AABB::from(rect));
+        // document 01's 5 is the original's OutOfBounds
         if !contains(&self.settings, rect) {
-            assert!(self.tree.insert(element).is_err(), "the original takes what document 01 refuses 5: {call}");
-            return Answer::refused(5, call);
+            return if self.tree.insert(element).is_err() { Answer::refused(5, call) } else { Answer::accepted([0, 0]) };
         }
         if self.live == self.places {
             return Answer::refused(6, call);
@@ -92,7 +92,9 @@ impl Original {
         if needed > self.groups - used {
             return Answer::refused(7, call);
         }
-        assert!(self.tree.insert(element).is_ok(), "the original refuses what document 01 takes: {call}");
+        if self.tree.insert(element).is_err() {
+            return Answer::refused(5, call);
+        }
         self.live += 1;
         Answer::accepted([(self.used() - used) as u32, 0])
     }

@@ -1,16 +1,16 @@
 -- Laws of the exported calls.
 --     signed-near, signed-far, far-wide, far-narrow    the number that a word stands for, and that it fits
---     ten, two     rows that fit; answer-words: an answer row that is written; keeps-state: a row keeps the state that it holds
+--     ten, two     rows that fit; answer-words: an answer row that is written; keeps-state, holds-state: the state that a row holds
 --     exported-other, exported-row     THE PATTERN: rows of another length, and a call carried out
 --     check-other, check-row, make-other, make-row     the same for the check and make
-use mathlib.Core.Path.{_≡_, refl, sym, _∙_, ap, subst}
+use mathlib.Core.Path.{_≡_, refl, sym, _∙_, subst}
 use mathlib.Core.List.{List, [], _∷_}
 use mathlib.Core.Bool.{Bool, true, false, not, _&&_}
-use Prim.Native.Nat.{ℕ, _-_, _≤_, _<_}
+use Prim.Native.Nat.{ℕ, _≤_, _<_}
 use native.Mathlib.Omega.{arith}
-use lib.Dec.{ltb, eqb}
-use lib.IntN.{ℤ, pos, negsuc, _-ℤ_}
-use lib.ListN.{length, set, getD}
+use lib.Dec.{eqb}
+use lib.IntN.{ℤ, pos, _-ℤ_}
+use lib.ListN.{length, set}
 use lib.Seq.{set-getD}
 use mir.Syntax.{w32, w64}
 use mir.Val.{SFits}
@@ -82,6 +82,23 @@ answer-words (x ∷ y ∷ z ∷ zs) a b e = absurd (omega arith)
 pub keeps-state : (row : List ℕ) (s : State) → s ≡ stateIn row → row ≡ withState s row
 unfolding withState stateIn
 keeps-state row s e = rw (e, set-getD row 7 0, set-getD row 8 0, set-getD row 9 0) refl
+
+-- a row that is written holds the state, so that the next call goes on from it; a call keeps the settings
+pub holds-state : (row : List ℕ) (s : State) → length row ≡ 10 → s .settings ≡ settingsIn row → stateIn (withState s row) ≡ s
+unfolding withState stateIn settingsIn
+holds-state (a ∷ b ∷ c ∷ d ∷ e ∷ f ∷ g ∷ h ∷ i ∷ j ∷ []) s l same =
+    λ k. record { settings = sym same k; «free_group» = s .«free_group»; «free_place» = s .«free_place»; live = s .live }
+holds-state [] s l same = absurd (omega arith)
+holds-state (a ∷ []) s l same = absurd (omega arith)
+holds-state (a ∷ b ∷ []) s l same = absurd (omega arith)
+holds-state (a ∷ b ∷ c ∷ []) s l same = absurd (omega arith)
+holds-state (a ∷ b ∷ c ∷ d ∷ []) s l same = absurd (omega arith)
+holds-state (a ∷ b ∷ c ∷ d ∷ e ∷ []) s l same = absurd (omega arith)
+holds-state (a ∷ b ∷ c ∷ d ∷ e ∷ f ∷ []) s l same = absurd (omega arith)
+holds-state (a ∷ b ∷ c ∷ d ∷ e ∷ f ∷ g ∷ []) s l same = absurd (omega arith)
+holds-state (a ∷ b ∷ c ∷ d ∷ e ∷ f ∷ g ∷ h ∷ []) s l same = absurd (omega arith)
+holds-state (a ∷ b ∷ c ∷ d ∷ e ∷ f ∷ g ∷ h ∷ i ∷ []) s l same = absurd (omega arith)
+holds-state (a ∷ b ∷ c ∷ d ∷ e ∷ f ∷ g ∷ h ∷ i ∷ j ∷ k ∷ ks) s l same = absurd (omega arith)
 
 -- ---- the pattern
 

@@ -1,0 +1,93 @@
+// The rows of docs/DIFFERENCES.md, each by its smallest input on both sides.
+use crate::calls::{Rect, Settings};
+use crate::krakvinge::{Rows, Tree};
+use crate::quadtree::quad_rect::QuadRect;
+use crate::quadtree::quadtree::{QuadTree, QuadTreeElement};
+use crate::quadtree::AABB;
+
+const ROOT: Settings = Settings { left: -8, top: -8, width: 16, height: 16, depth_limit: 3, leaf_limit: 1, smallest_cell: 1 };
+
+fn original(s: &Settings) -> QuadTree<u32> {
+    QuadTree::new(QuadRect::new(s.left, s.top, s.width, s.height), s.depth_limit as u8, s.leaf_limit, s.smallest_cell)
+}
+
+fn takes(tree: &mut QuadTree<u32>, id: u32, rect: Rect) -> bool {
+    tree.insert(QuadTreeElement::new(id, AABB::from(rect))).is_ok()
+}
+
+fn refused_insert(rect: Rect) -> u32 {
+    let mut tree = Tree::new(&ROOT, 4, 4).expect("the settings are in range");
+    tree.insert(1, rect).map_or_else(|refused| refused.number, |_| 0)
+}
+
+fn refused_make(s: &Settings) -> u64 {
+    Rows::new(s, 1, 1).make()
+}
+
+// Four in, four out, four in.
+fn freed_places() -> bool {
+    let (mut theirs, mut ours) = (original(&ROOT), Tree::new(&ROOT, 4, 4).expect("the settings are in range"));
+    let rect = |id: u32| [id as i32, 1, id as i32, 1];
+    let mut accepted = true;
+    for round in 0..3 {
+        for id in 0..4 {
+            if round == 1 {
+                accepted &= theirs.remove(&QuadTreeElement::new(id, AABB::from(rect(id)))) && ours.remove(id, rect(id)) == Ok(true);
+            } else {
+                accepted &= takes(&mut theirs, id, rect(id)) && ours.insert(id, rect(id)).is_ok();
+            }
+        }
+    }
+    accepted && theirs.place_number() == 7
+}
+
+fn inverted_dot() -> bool {
+    let mut theirs = original(&ROOT);
+    let taken = takes(&mut theirs, 1, [1, 0, 0, 0]) && takes(&mut theirs, 2, [1, 1, 2, 2]);
+    taken && theirs.count_element_references() == 1 && refused_insert([1, 0, 0, 0]) == 4
+}
+
+fn far_coordinate() -> bool {
+    let far = [2147483647, 0, 2147483647, 0];
+    takes(&mut original(&ROOT), 1, far) && refused_insert(far) == 4
+}
+
+fn limits_of_0() -> bool {
+    let hook = std::panic::take_hook();
+    std::panic::set_hook(Box::new(|_| {}));
+    let bad = [Settings { leaf_limit: 0, ..ROOT }, Settings { smallest_cell: 0, ..ROOT }];
+    let both = bad.iter().all(|s| std::panic::catch_unwind(|| original(s)).is_err() && refused_make(s) == 2);
+    std::panic::set_hook(hook);
+    both
+}
+
+// Cells of half sizes 0 go on splitting.
+fn large_smallest_cell() -> bool {
+    let s = Settings { left: 0, top: 0, width: 1, height: 1, smallest_cell: 2147483648, ..ROOT };
+    let mut theirs = original(&s);
+    let taken = takes(&mut theirs, 1, [0, 0, 0, 0]) && takes(&mut theirs, 2, [0, 0, 0, 0]);
+    taken && theirs.node_number() == 1 + 5 * s.depth_limit as usize && refused_make(&s) == 2
+}
+
+fn far_edge() -> bool {
+    refused_make(&Settings { left: 1073741823, width: 1, ..ROOT }) == 2 && refused_make(&Settings { left: 1073741823, width: 0, ..ROOT }) == 0
+}
+
+fn depth_limit() -> bool {
+    refused_make(&Settings { depth_limit: 256, ..ROOT }) == 2 && refused_make(&Settings { depth_limit: 255, ..ROOT }) == 0
+}
+
+pub fn as_documented() -> bool {
+    let rows: [(&str, fn() -> bool); 7] = [
+        ("freed places", freed_places),
+        ("an inverted dot", inverted_dot),
+        ("a coordinate beyond 2^30", far_coordinate),
+        ("a leaf limit or smallest cell of 0", limits_of_0),
+        ("a smallest cell of 2147483648", large_smallest_cell),
+        ("a root whose far edge passes 1073741823", far_edge),
+        ("a depth limit of 256", depth_limit),
+    ];
+    let wrong: Vec<&str> = rows.iter().filter(|(_, holds)| !holds()).map(|(name, _)| *name).collect();
+    println!("differential: {} documented differences hold, of {}{}", rows.len() - wrong.len(), rows.len(), wrong.iter().map(|w| format!("; NOT: {w}")).collect::<String>());
+    wrong.is_empty()
+}
