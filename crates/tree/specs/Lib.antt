@@ -12,6 +12,7 @@
 --     Readings     the rows read as memory; a store into a row
 --     Routes       the way of a rectangle to its leaf
 --     Chains, Leaves       a chain and a leaf in the rows
+--     Standing     a tree in the rows, as the walks meet it
 pub mod Frames
 pub mod Paths
 pub mod Stores
@@ -25,3 +26,4 @@ pub mod Readings
 pub mod Routes
 pub mod Chains
 pub mod Leaves
+pub mod Standing

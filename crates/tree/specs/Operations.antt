@@ -1,5 +1,6 @@
 -- What the single operations, which make no check, ask and leave.
 --     IsTree       the words are those of a tree, whatever the marks
+--     HasTree      the nodes are, with some dots
 --     CarriedOut   what an operation that follows a rule leaves
 --     refused-exit, shaped-exit    the two ways to it: a refusal keeps the words; an answer's words hold the rule's shape
 --     same-marks   the marks don't matter
@@ -18,6 +19,12 @@ pub record IsTree (s : State) (nodes dots : List ℕ) (rects : List ℤ) : Type 
   pub marks : List ℕ
   pub shape : Shape
   pub holds : Holds (world s nodes dots rects marks) shape
+
+-- the nodes are those of a tree, with some dots
+pub record HasTree (s : State) (nodes : List ℕ) : Type 0 where
+  pub dots : List ℕ
+  pub rects : List ℤ
+  pub tree : IsTree s nodes dots rects
 
 -- for every marks and every shape that the words hold
 abbrev pub CarriedOut : {A : Type 0} → (Shape → Verdict ℕ A) → State → List ℕ → List ℕ → List ℤ → State → List ℕ → List ℕ → List ℤ → Reply A → Type 0

@@ -3,8 +3,8 @@
 --     cleaned-up   what it leaves is what the rule says
 use mathlib.Core.Path.{_≡_, refl, ap, sym, _∙_, subst}
 use mathlib.Core.List.{List, []}
-use mathlib.Core.Bool.{Bool, true, false, not}
-use Prim.Native.Nat.{ℕ, zero, suc, _+_, _*_, _≤_}
+use mathlib.Core.Bool.{not}
+use Prim.Native.Nat.{ℕ, zero, suc}
 use native.Mathlib.Omega.{arith}
 use lib.IntN.{ℤ}
 use lib.Dec.{ltb}
@@ -12,28 +12,21 @@ use lib.ListN.{length, replicate, length-replicate}
 use borrow.Author.Tests.{lt-ltb, le-ltb}
 use Rattle.geometry.specs.Settings.{D}
 use Rattle.model.specs.declared.State.{State}
-use Rattle.model.specs.Sums.{indicator}
-use Rattle.model.specs.Trees.{Tree, size}
 use Rattle.model.specs.Cleanup.{isZero, cleanTree, freedBy, turned}
-use Rattle.model.specs.Shapes.{Shape, Valid, cleaned, cleans}
-use Rattle.model.specs.Layout.{World, world, changedState, cleared, layout, Holds}
-use Rattle.model.specs.Memory.{Represented}
-use Rattle.model.specs.Calls.{answered, accept, exit, carriedOut, cleanupRule}
+use Rattle.model.specs.Shapes.{Shape, cleaned, cleans}
+use Rattle.model.specs.Layout.{world, changedState, Holds}
+use Rattle.model.specs.Calls.{answered, exit, cleanupRule}
 use Rattle.model.specs.Laws.Shapes.{below-le, cleaned-valid}
 use Rattle.model.specs.Laws.Cleanup.{clean-sum}
-use Rattle.model.specs.Laws.Layout.{holds-settings}
 use Rattle.model.specs.Laws.Memory.{holds-represented}
-use Rattle.tree.specs.Collapses.{Walk, cleanWords, Was}
+use Rattle.tree.specs.Collapses.{Walk, Was}
 use Rattle.tree.specs.Stores.{Stored}
 use Rattle.tree.specs.Removals.{nodes-all, clean-holds}
 use Rattle.tree.specs.Joins.{holds-stored, stored-holds}
-use Rattle.tree.specs.Operations.{IsTree, shaped-exit}
-use Rattle.tree_query.specs.Walks.{Stands}
-use Rattle.tree_query.specs.Shapes.{root-stands, root-counts}
-use Rattle.tree_query.specs.Answers.{HasTree}
+use Rattle.tree.specs.Operations.{shaped-exit, HasTree}
+use Rattle.tree.specs.Standing.{root-stands, root-total}
 use Rattle.tree_cleanup.specs.declared.Swept.{Swept}
-use Rattle.tree_cleanup.specs.declared.Cleaning.{Cleaning}
-use Rattle.tree_cleanup.specs.Walks.{walkOf, Fits, Cleaned, NodeWalk, NodeCleaned}
+use Rattle.tree_cleanup.specs.Walks.{walkOf, Fits, NodeWalk, NodeCleaned}
 use Rattle.tree_cleanup.specs.Answers.{CleanedUp}
 
 module _ (s : State) (nodes : List ℕ) where
@@ -59,7 +52,7 @@ module _ (s : State) (nodes : List ℕ) where
         free = i .shape .freeGroups;
         was = root-was (t .dots) (t .rects) (i .marks) (i .shape) (i .holds);
         fits = root-fits (t .dots) (t .rects) (i .marks) (i .shape) (i .holds);
-        small = omega (arith, root-counts s nodes (t .dots) (t .rects) (i .marks) (i .shape) (i .holds) .opened);
+        small = omega (arith, root-total s nodes (t .dots) (t .rects) (i .marks) (i .shape) (i .holds));
       }
 
   some-turned : (n : ℕ) → ltb 0 n ≡ not (isZero n)

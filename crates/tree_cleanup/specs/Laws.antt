@@ -4,34 +4,34 @@
 --     turned-cleaned       a branch with five empty children is turned
 --     branch-group, branch-cleaned         any other hands its group on
 --     group-none; group-node, group-rest, group-cleaned    a group: no child left; the last child, and the others
-use mathlib.Core.Path.{_≡_, refl, ap, ap₂, sym, _∙_, subst}
+use mathlib.Core.Path.{_≡_, refl, ap, sym, _∙_, subst}
 use mathlib.Core.Logic.{_≢_}
-use mathlib.Core.List.{List, [], _∷_}
-use mathlib.Core.Bool.{Bool, true, false, cond, _&&_}
-use Prim.Native.Nat.{ℕ, zero, suc, _+_, _*_, _-_, _≤_, _<_}
+use mathlib.Core.List.{List, []}
+use mathlib.Core.Bool.{Bool, true, false, _&&_}
+use Prim.Native.Nat.{ℕ, zero, suc, _+_, _-_, _≤_, _<_}
 use native.Mathlib.Nat.{le-refl}
 use native.Mathlib.Numerals.{sub-one}
-use native.Mathlib.Decide.{ℕ-discrete}
 use native.Mathlib.Omega.{arith}
 use lib.IntN.{ℤ}
 use lib.Dec.{eqb}
 use lib.ListN.{length}
-use borrow.Author.Tests.{eqb-true, eq-eqb, ne-eqb}
-use Rattle.arithmetic.specs.Tests.{byBool, true-false}
+use borrow.Author.Tests.{eqb-true, eq-eqb}
+use Rattle.arithmetic.specs.Tests.{byBool}
 use Rattle.arithmetic.specs.Linear.{and-t, same-test}
-use Rattle.model.specs.Sums.{indicator, indicator-same, sumOver, sumOver-one, sumBelow, sumBelow-le, sumBelow-term, sumBelow-zero, changed, changed-same, changed-other, byDec}
-use Rattle.model.specs.Trees.{Placed, Tree, leaf, branch, childNode, Shallow, size}
-use Rattle.model.specs.Cleanup.{isZero, busy, allEmpty, cleanTree, downFrom, freedBy, turned}
+use Rattle.model.specs.Sums.{indicator, indicator-same, sumOver-one, sumBelow, sumBelow-le, sumBelow-term, changed, changed-other}
+use Rattle.model.specs.Trees.{Tree, leaf, branch, childNode, Shallow, size}
+use Rattle.model.specs.Cleanup.{isZero, busy, allEmpty, freedBy, turned}
 use Rattle.model.specs.Layout.{none, branchMark}
-use Rattle.model.specs.Memory.{Mem, firstAt, countAt, nextAt, dotAt, Represents, FreeGroups}
+use Rattle.model.specs.Memory.{firstAt, countAt, nextAt, dotAt, Represents}
 use Rattle.model.specs.Laws.Cleanup.{zero-is, children-empty}
 use Rattle.memory.specs.declared.node.Node.{Node}
 use Rattle.memory.specs.Nodes.{emptyLeaf}
 use Rattle.memory.specs.Rows.{HasNode, setNodeAt}
 use Rattle.memory.specs.Laws.{first-set, count-set, node-length, changed-by}
-use Rattle.tree.specs.Frames.{nodeCount, SameNode, SamePlace, tree-frame}
-use Rattle.tree.specs.Collapses.{overGroup, clean-nodes, Walk, collapse, cleanWords, Was, Got, clean-got}
-use Rattle.tree_query.specs.Walks.{memoryOf, NodesIn, nodeTotal}
+use Rattle.tree.specs.Frames.{nodeCount, tree-frame}
+use Rattle.tree.specs.Collapses.{clean-nodes, Walk, collapse, cleanWords, Was, clean-got}
+use Rattle.tree.specs.Readings.{read}
+use Rattle.tree.specs.Standing.{NodesIn, nodeTotal}
 use Rattle.tree_cleanup.specs.declared.Swept.{Swept}
 use Rattle.tree_cleanup.specs.Walks.{HasGroup, emptyGroup, turnedNodes, walkOf, Fits, Cleaned, NodeWalk, NodeCleaned, KidsWas, cleanKids, GroupWalk, GroupCleaned}
 
@@ -117,12 +117,12 @@ module _ (nodes : List ℕ) (swept : Swept) (a levels : ℕ) where
       unfolding branchMark
       count-busy i b z = go (f i) (w .1 .2 i b)
         where
-          go : (t : Tree) → Represents (memoryOf nodes dots rects) (childNode g i) t → busy t ≡ 0
+          go : (t : Tree) → Represents (read nodes dots rects) (childNode g i) t → busy t ≡ 0
           go (leaf chain) r = sym (r .0) ∙ z
           go (branch h k) r = absurd (omega (arith, r .0))
 
       empty-count : (i : ℕ) → i < 5 → f i ≡ leaf [] → countAt nodes (childNode g i) ≡ 0
-      empty-count i b e = subst (λ (t : Tree). Represents (memoryOf nodes dots rects) (childNode g i) t) e (w .1 .2 i b) .0
+      empty-count i b e = subst (λ (t : Tree). Represents (read nodes dots rects) (childNode g i) t) e (w .1 .2 i b) .0
 
       count-is : (i : ℕ) → firstAt nodes a + i ≡ childNode g i
       count-is i = omega (arith, first-is)

@@ -16,7 +16,8 @@ use Rattle.memory.specs.Nodes.{emptyLeaf}
 use Rattle.memory.specs.Rows.{HasNode, setNodeAt}
 use Rattle.tree.specs.Frames.{nodeCount}
 use Rattle.tree.specs.Collapses.{overGroup, Walk, cleanWords, Was}
-use Rattle.tree_query.specs.Walks.{memoryOf, NodesIn, nodeTotal}
+use Rattle.tree.specs.Readings.{read}
+use Rattle.tree.specs.Standing.{NodesIn, nodeTotal}
 use Rattle.tree_cleanup.specs.declared.Swept.{Swept}
 
 abbrev pub HasGroup : List ℕ → ℕ → Type 0
@@ -30,7 +31,7 @@ unfoldable pub turnedNodes : List ℕ → ℕ → ℕ → ℕ → List ℕ
 turnedNodes nodes a first head = setNodeAt (setNodeAt nodes a emptyLeaf) first (record { first = head; count = 0 })
 
 abbrev pub walkOf : List ℕ → List ℕ → List ℤ → ℕ → Walk
-walkOf nodes dots rects head = record { mem = memoryOf nodes dots rects; head = head }
+walkOf nodes dots rects head = record { mem = read nodes dots rects; head = head }
 
 -- the tree's nodes are in the row, at most so high, and its dots few
 pub record Fits (nodes : List ℕ) (levels a : ℕ) (t : Tree) : Type 0 where

@@ -2,7 +2,7 @@
 ghost use mathlib.Core.Path.{_≡_};
 ghost use Prim.Native.Nat.{_+_};
 ghost use Rattle.memory.specs.Rows.{HasNode};
-ghost use Rattle.tree_query.specs.Answers.{HasTree};
+ghost use Rattle.tree.specs.Operations.{HasTree};
 ghost use Rattle.tree_cleanup.specs.Answers.{CleanedUp};
 ghost use Rattle.tree_cleanup.specs.Walks.{HasGroup, emptyGroup, turnedNodes, NodeWalk, NodeCleaned, GroupWalk, GroupCleaned};
 use memory::node::Node;

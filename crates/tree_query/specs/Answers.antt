@@ -14,7 +14,6 @@ use Rattle.model.specs.Shapes.{Shape, listed, opensFor, leaves}
 use Rattle.model.specs.Layout.{world, Holds}
 use Rattle.model.specs.Calls.{Reply, tooMany, answered, Listed, exit, carriedOut, queryRule, leavesRule}
 use Rattle.tree_query.specs.declared.walk.Found.{Found}
-use Rattle.tree.specs.Operations.{IsTree}
 use Rattle.tree_query.specs.declared.leaves.LeafListing.{LeafListing}
 use Rattle.tree_query.specs.declared.leaves.LeafListing.the-variants as leafListing
 use Rattle.tree_query.specs.declared.query.Listing.{Listing}
@@ -47,12 +46,6 @@ Queried s q nodes dots rects row row′ reply =
 abbrev pub leafReply : LeafListing → Reply ℕ
 leafReply (leafListing.TooMany n) = tooMany n
 leafReply (leafListing.Listed n) = answered n
-
--- the nodes are those of a tree, with some dots
-pub record HasTree (s : State) (nodes : List ℕ) : Type 0 where
-  pub dots : List ℕ
-  pub rects : List ℤ
-  pub tree : IsTree s nodes dots rects
 
 unfoldable pub LeavesMet : State → List ℕ → ℕ → List ℤ → List ℤ → ℕ → Type 0
 LeavesMet s nodes room row row′ r =

@@ -5,8 +5,8 @@
 --     rest-place   the place that a turn reads is in the rows
 use mathlib.Core.Path.{_≡_, refl, ap, sym, _∙_, subst}
 use mathlib.Core.List.{List, [], _∷_, map}
-use mathlib.Core.Bool.{Bool, true, false, cond}
-use Prim.Native.Nat.{ℕ, zero, suc, _+_, _-_, _≤_, _<_}
+use mathlib.Core.Bool.{true, false, cond}
+use Prim.Native.Nat.{ℕ, _+_, _-_, _≤_, _<_}
 use native.Mathlib.Omega.{arith}
 use lib.IntN.{ℤ}
 use lib.ListN.{length}
@@ -14,15 +14,17 @@ use Rattle.arithmetic.specs.Tests.{byBool}
 use Rattle.geometry.specs.declared.aabb.AABB.{AABB}
 use Rattle.geometry.specs.Rectangles.{intersects}
 use Rattle.model.specs.declared.Dot.{Dot}
-use Rattle.model.specs.Lists.{All, filter}
+use Rattle.model.specs.Lists.{All}
 use Rattle.model.specs.Dots.{isHit}
 use Rattle.model.specs.Trees.{Placed}
 use Rattle.model.specs.Layout.{none}
-use Rattle.model.specs.Memory.{Mem, nextAt, dotAt, Chained}
+use Rattle.model.specs.Memory.{nextAt, dotAt, Chained}
 use Rattle.memory.specs.Rows.{HasPlace, HasRect}
+use Rattle.tree.specs.Readings.{read}
+use Rattle.tree.specs.Standing.{InRows}
 use Rattle.tree_query.specs.declared.walk.Found.{Found}
 use Rattle.tree_query.specs.Rows.{kept, keptAll, kept-length}
-use Rattle.tree_query.specs.Walks.{memoryOf, InRows, chainHits, hitsAfter, rowWith, after, rowAfter, Left, ChainWalk, ChainWalked}
+use Rattle.tree_query.specs.Walks.{chainHits, hitsAfter, rowWith, after, rowAfter, Left, ChainWalked}
 
 -- ---- one dot
 
@@ -42,7 +44,7 @@ ids ds = map (λ d. d .dot .id) ds
 
 module _ (q : AABB) (dots : List ℕ) (rects : List ℤ) (room : ℕ) where
   abbrev Chain : ℕ → List Placed → Type 0
-  Chain head chain = Chained (memoryOf [] dots rects) head chain none
+  Chain head chain = Chained (read [] dots rects) head chain none
 
   -- of the whole chain, from the position at₀ of row₀, this is left
   pub record RestOf (row₀ : List ℕ) (at₀ : ℕ) (whole : List Placed) (row : List ℕ) (at place left : ℕ) : Type 0 where

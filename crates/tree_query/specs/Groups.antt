@@ -6,43 +6,34 @@
 --     group-none; group-skip, group-skipped; group-node, group-rest, group-walked  a group: no child left; a child that isn't opened; one that is
 use mathlib.Core.Path.{_≡_, refl, ap, sym, _∙_, subst}
 use mathlib.Core.List.{List, [], _∷_, _++_, map, append-assoc, append-nil}
-use mathlib.Core.Bool.{Bool, true, false, not, cond, _||_}
-use Prim.Native.Nat.{ℕ, zero, suc, _+_, _*_, _-_, _≤_, _<_}
+use mathlib.Core.Bool.{Bool, true, false, cond, _||_}
+use Prim.Native.Nat.{ℕ, zero, suc, _+_, _-_, _≤_, _<_}
 use native.Mathlib.Omega.{arith}
 use lib.IntN.{ℤ}
 use lib.Dec.{eqb}
 use lib.ListN.{length, length-append}
-use borrow.Author.Tests.{not-true, not-false, eqb-true, eqb-false}
-use Rattle.arithmetic.specs.Tests.{byBool, true-false}
+use Rattle.arithmetic.specs.Tests.{byBool}
 use Rattle.geometry.specs.declared.aabb.AABB.{AABB}
 use Rattle.geometry.specs.declared.centered_aabb.CenteredAABB.{CenteredAABB}
 use Rattle.geometry.specs.declared.node_data.NodeData.{NodeData}
 use Rattle.geometry.specs.declared.quadrants.Quadrants.{Quadrants}
-use Rattle.geometry.specs.Cells.{routeCell, mayDivide, childCell, childData, bitAt, cellCode, opensCell, opens, InRange}
+use Rattle.geometry.specs.Cells.{childCell, childData, bitAt, cellCode, opensCell, opens, InRange}
 use Rattle.geometry.specs.Laws.Codes.{opens-code}
 use Rattle.geometry.specs.Laws.Ranges.{child-range}
 use native.Mathlib.Numerals.{sub-one}
 use Rattle.model.specs.Sums.{sumOver-one, sumBelow, sumBelow-le, sumBelow-term}
-use Rattle.model.specs.Lists.{All, filter, joinBelow}
+use Rattle.model.specs.Lists.{filter, joinBelow}
 use Rattle.model.specs.Dots.{isHit}
 use Rattle.model.specs.Trees.{Placed, Tree, leaf, branch, childNode, Shallow, size}
 use Rattle.model.specs.Query.{hits, opened}
 use Rattle.model.specs.Layout.{none, branchMark}
-use Rattle.model.specs.Memory.{Mem, firstAt, countAt, nextAt, dotAt, Chained, Represents}
-use Rattle.memory.specs.declared.node.Node.{Node}
-use Rattle.memory.specs.Nodes.{nodeAt}
+use Rattle.model.specs.Memory.{firstAt, countAt, nextAt, Chained}
 use Rattle.memory.specs.Rows.{HasNode}
+use Rattle.tree.specs.Readings.{read}
+use Rattle.tree.specs.Standing.{nodeTotal, Stands}
 use Rattle.tree_query.specs.declared.walk.Found.{Found}
 use Rattle.tree_query.specs.Rows.{keptAll, kept-append, keptAll-length}
-use Rattle.tree_query.specs.Walks.{memoryOf, InRows, NodesIn, nodeTotal, Stands, joinLast, sumLast, chainHits, groupHits, groupOpened, after, rowAfter, Left, Counts, ChainWalk, ChainWalked, NodeWalk, NodeWalked, GroupWalk, GroupWalked}
-
--- ---- what a test for a branch says of the count
-
-pub not-branch : (nodes : List ℕ) (a : ℕ) {w : Node} {b : Bool} → w ≡ nodeAt nodes a → b ≡ eqb (w .count) branchMark → not b ≡ true → countAt nodes a ≡ branchMark → ⊥
-not-branch nodes a {w} {b} e f n h = eqb-false (w .count) branchMark (sym f ∙ not-true b n) (ap (λ (x : Node). x .count) e ∙ h)
-
-pub is-branch : (nodes : List ℕ) (a : ℕ) {w : Node} {b : Bool} → w ≡ nodeAt nodes a → b ≡ eqb (w .count) branchMark → not b ≡ false → countAt nodes a ≡ branchMark
-is-branch nodes a {w} {b} e f n = sym (ap (λ (x : Node). x .count) e) ∙ eqb-true (w .count) branchMark (sym f ∙ not-false b n)
+use Rattle.tree_query.specs.Walks.{joinLast, sumLast, chainHits, groupHits, groupOpened, after, rowAfter, Left, Counts, ChainWalk, ChainWalked, NodeWalk, NodeWalked, GroupWalk, GroupWalked}
 
 -- ---- one walk after another
 
@@ -116,7 +107,7 @@ module _ (q : AABB) where
 
 -- ---- a leaf
 
-chain-rows : (nodes nodes′ dots : List ℕ) (rects : List ℤ) (h : ℕ) (ds : List Placed) → Chained (memoryOf nodes dots rects) h ds none → Chained (memoryOf nodes′ dots rects) h ds none
+chain-rows : (nodes nodes′ dots : List ℕ) (rects : List ℤ) (h : ℕ) (ds : List Placed) → Chained (read nodes dots rects) h ds none → Chained (read nodes′ dots rects) h ds none
 chain-rows nodes nodes′ dots rects h [] s = s
 chain-rows nodes nodes′ dots rects h (d ∷ ds) s = (s .0, s .1, chain-rows nodes nodes′ dots rects (nextAt dots (d .place)) ds (s .2))
 

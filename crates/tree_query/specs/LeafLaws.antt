@@ -4,8 +4,8 @@
 --     branch-level, leaf-children, branch-leaves   a branch
 --     group-empty; group-child, group-others, group-leaves         a group
 use mathlib.Core.Path.{_≡_, refl, ap, sym, _∙_, subst}
-use mathlib.Core.List.{List, [], _∷_, _++_, append-assoc, append-nil}
-use mathlib.Core.Bool.{Bool, true, false}
+use mathlib.Core.List.{List, [], _++_, append-assoc, append-nil}
+use mathlib.Core.Bool.{false}
 use Prim.Native.Nat.{ℕ, zero, suc, _+_, _*_, _-_, _≤_, _<_}
 use native.Mathlib.Numerals.{sub-one}
 use native.Mathlib.Omega.{arith}
@@ -14,9 +14,9 @@ use lib.IntN.{ℤ, pos}
 use lib.ListN.{length, length-append}
 use borrow.Author.Tests.{ne-eqb}
 use Rattle.geometry.specs.declared.node_data.NodeData.{NodeData}
-use Rattle.geometry.specs.Cells.{routeCell, mayDivide, childCell, childData, InRange}
+use Rattle.geometry.specs.Cells.{childData, InRange}
 use Rattle.geometry.specs.Laws.Ranges.{child-range}
-use Rattle.model.specs.Sums.{sumOver-one, sumBelow, sumBelow-le, sumBelow-term}
+use Rattle.model.specs.Sums.{sumOver-one, sumBelow-le, sumBelow-term}
 use Rattle.model.specs.Lists.{joinBelow}
 use Rattle.model.specs.Trees.{Placed, Tree, leaf, branch, childNode, Shallow, size}
 use Rattle.model.specs.Query.{leavesOf, leafCount}
@@ -24,9 +24,10 @@ use Rattle.model.specs.Layout.{branchMark}
 use Rattle.model.specs.Memory.{firstAt, countAt}
 use Rattle.model.specs.Laws.Query.{leaves-length}
 use Rattle.memory.specs.Rows.{HasNode}
+use Rattle.tree.specs.Standing.{nodeTotal}
 use Rattle.tree_query.specs.Rows.{kept, keptAll, kept-append, keptAll-length}
-use Rattle.tree_query.specs.Walks.{NodesIn, nodeTotal, joinLast, sumLast}
-use Rattle.tree_query.specs.Leaves.{wordsOf, Shaped, LeafStands, groupLeaves, LeavesLeft, LeafWalk, LeafWalked, LeafGroup, LeafGroupWalked}
+use Rattle.tree_query.specs.Walks.{joinLast, sumLast}
+use Rattle.tree_query.specs.Leaves.{wordsOf, LeafStands, groupLeaves, LeavesLeft, LeafWalk, LeafWalked, LeafGroup, LeafGroupWalked}
 
 -- ---- one walk after another
 

@@ -3,8 +3,8 @@
 --     root-leaves, leaves-met      the walk from the root
 --     leaves-fit   there are few
 --     leaves-many, leaves-listed   refusal 8, and the numbers listed
-use mathlib.Core.Path.{_≡_, refl, ap, sym, _∙_, subst}
-use mathlib.Core.List.{List, [], _∷_}
+use mathlib.Core.Path.{_≡_, ap, _∙_}
+use mathlib.Core.List.{List}
 use mathlib.Core.Bool.{true}
 use Prim.Native.Nat.{ℕ, _+_, _*_, _/_, _≤_, _<_}
 use native.Mathlib.Omega.{arith}
@@ -13,27 +13,28 @@ use lib.ListN.{length, replicate}
 use borrow.Author.Tests.{lt-ltb, le-ltb}
 use Rattle.geometry.specs.declared.node_data.NodeData.{NodeData}
 use Rattle.geometry.specs.Settings.{inRange, D}
-use Rattle.geometry.specs.Cells.{rootCell, rootData}
+use Rattle.geometry.specs.Cells.{rootData}
 use Rattle.geometry.specs.Laws.Ranges.{accepted, root-range}
 use Rattle.geometry.specs.Laws.Reach.{deepest-within}
 use Rattle.model.specs.declared.State.{State}
 use Rattle.model.specs.Trees.{Tree, leaf, branch, childNode}
-use Rattle.model.specs.Query.{leavesOf, leafCount}
+use Rattle.model.specs.Query.{leavesOf}
 use Rattle.model.specs.Shapes.{Shape, root, leaves, leafNumber}
-use Rattle.model.specs.Layout.{world, cleared, Holds}
+use Rattle.model.specs.Layout.{world, cleared}
 use Rattle.model.specs.Memory.{Represents}
-use Rattle.model.specs.Calls.{Reply, tooMany, answered, exit, carriedOut, leavesRule}
+use Rattle.model.specs.Calls.{tooMany, answered, exit, leavesRule}
 use Rattle.model.specs.Laws.Query.{leaves-length}
 use Rattle.model.specs.Laws.Layout.{holds-settings}
+use Rattle.tree.specs.Readings.{read}
+use Rattle.tree.specs.Operations.{HasTree}
+use Rattle.tree.specs.Standing.{Stands, root-stands, root-total}
 use Rattle.tree_query.specs.Rows.{keptAll, kept-whole}
-use Rattle.tree_query.specs.Walks.{memoryOf, Stands, nodeTotal}
-use Rattle.tree_query.specs.Shapes.{root-stands, root-counts}
 use Rattle.tree_query.specs.Queries.{tree-settings}
-use Rattle.tree_query.specs.Leaves.{Shaped, LeafStands, LeavesLeft, LeafWalk, LeafWalked}
+use Rattle.tree_query.specs.Leaves.{Shaped, LeafStands, LeafWalk, LeafWalked}
 use Rattle.tree_query.specs.LeafLaws.{words-total}
-use Rattle.tree_query.specs.Answers.{HasTree, LeavesMet, LeavesListed}
+use Rattle.tree_query.specs.Answers.{LeavesMet, LeavesListed}
 
-shaped : (nodes dots : List ℕ) (rects : List ℤ) (a : ℕ) (t : Tree) → Represents (memoryOf nodes dots rects) a t → Shaped nodes a t
+shaped : (nodes dots : List ℕ) (rects : List ℤ) (a : ℕ) (t : Tree) → Represents (read nodes dots rects) a t → Shaped nodes a t
 shaped nodes dots rects a (leaf chain) r = r .0
 shaped nodes dots rects a (branch g f) r = (r .0, r .1, λ i b. shaped nodes dots rects (childNode g i) (f i) (r .2 i b))
 
@@ -54,7 +55,7 @@ module _ (s : State) (nodes : List ℕ) where
       record {
         tree = x .tree;
         stands = leaf-stands nodes (h .dots) (h .rects) (D (s .settings)) 0 (x .tree) (root-stands s nodes (h .dots) (h .rects) (t .marks) x (t .holds));
-        small = omega (arith, root-counts s nodes (h .dots) (h .rects) (t .marks) x (t .holds) .opened);
+        small = omega (arith, root-total s nodes (h .dots) (h .rects) (t .marks) x (t .holds));
         fits = fits;
         cellFits = rw e (root-range (s .settings) (accepted (s .settings) (leaf-settings h) .root));
         deep = omega (arith, within, depth);
@@ -85,7 +86,7 @@ module _ (s : State) (nodes : List ℕ) where
         arith,
         m (h .dots) (h .rects) (t .marks) x (t .holds) .0,
         words-total (root x) (x .tree),
-        root-counts s nodes (h .dots) (h .rects) (t .marks) x (t .holds) .opened,
+        root-total s nodes (h .dots) (h .rects) (t .marks) x (t .holds),
       )
 
   -- ---- the answer

@@ -3,18 +3,19 @@
 --     Shaped       the nodes are those of a tree; LeafStands: in a row that has them, at most so high
 --     LeafWalk, LeafWalked, LeafGroup, LeafGroupWalked     the contracts of the node's and the group's walk
 use mathlib.Core.Path.{_≡_}
-use mathlib.Core.List.{List, [], _∷_, _++_}
-use Prim.Native.Nat.{ℕ, zero, suc, _+_, _*_, _-_, _≤_, _<_}
+use mathlib.Core.List.{List, [], _∷_}
+use Prim.Native.Nat.{ℕ, _+_, _*_, _≤_, _<_}
 use lib.IntN.{ℤ, pos}
 use lib.ListN.{length}
 use Rattle.geometry.specs.declared.node_data.NodeData.{NodeData}
-use Rattle.geometry.specs.Cells.{routeCell, mayDivide, childData, InRange}
+use Rattle.geometry.specs.Cells.{childData, InRange}
 use Rattle.model.specs.Trees.{Tree, leaf, branch, childNode, Shallow, size}
 use Rattle.model.specs.Query.{leavesOf}
 use Rattle.model.specs.Layout.{branchMark}
 use Rattle.model.specs.Memory.{firstAt, countAt}
+use Rattle.tree.specs.Standing.{NodesIn, nodeTotal}
 use Rattle.tree_query.specs.Rows.{keptAll}
-use Rattle.tree_query.specs.Walks.{NodesIn, nodeTotal, joinLast, sumLast}
+use Rattle.tree_query.specs.Walks.{joinLast, sumLast}
 
 -- 'centre x, centre y, half width, half height, depth, count'
 abbrev pub wordsOf : NodeData → ℕ → List ℤ

@@ -3,7 +3,6 @@ pub mod Rows
 pub mod Walks
 pub mod Chains
 pub mod Groups
-pub mod Shapes
 pub mod Answers
 pub mod Queries
 pub mod Leaves

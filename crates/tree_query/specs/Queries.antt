@@ -4,14 +4,13 @@
 --     met-counted          a walk with no room counts
 --     listed-few, counted-hits, counts-fit, met-fit        how many there are, at most
 --     queried-many, queried-listed         refusal 8, and the ids listed
-use mathlib.Core.Path.{_≡_, refl, ap, sym, _∙_, subst}
-use mathlib.Core.List.{List, [], _∷_, _++_, map}
-use mathlib.Core.Bool.{true, false}
+use mathlib.Core.Path.{_≡_, ap, sym, _∙_}
+use mathlib.Core.List.{List, map}
+use mathlib.Core.Bool.{true}
 use Prim.Native.Nat.{ℕ, _+_, _≤_, _<_}
 use native.Mathlib.Omega.{arith}
 use lib.IntN.{ℤ}
-use lib.Dec.{ltb}
-use lib.ListN.{length, drop, replicate}
+use lib.ListN.{length, replicate}
 use borrow.Author.Tests.{lt-ltb, le-ltb}
 use Rattle.geometry.specs.declared.aabb.AABB.{AABB}
 use Rattle.geometry.specs.declared.centered_aabb.CenteredAABB.{CenteredAABB}
@@ -20,21 +19,20 @@ use Rattle.geometry.specs.Cells.{rootCell, rootData}
 use Rattle.geometry.specs.Laws.Ranges.{accepted, root-range}
 use Rattle.model.specs.declared.State.{State}
 use Rattle.model.specs.Query.{hits, opened}
-use Rattle.model.specs.Trees.{Placed, size}
-use Rattle.model.specs.Shapes.{Shape, Valid, root, listed, opensFor}
-use Rattle.model.specs.Layout.{World, world, cleared, layout, Holds}
-use Rattle.model.specs.Calls.{Reply, tooMany, answered, Listed, Verdict, overflow, accept, exit, carriedOut, queryRule}
+use Rattle.model.specs.Shapes.{Shape, root, listed, opensFor}
+use Rattle.model.specs.Layout.{world, cleared, Holds}
+use Rattle.model.specs.Calls.{tooMany, answered, exit, queryRule}
 use Rattle.model.specs.Laws.Shapes.{live-and-free}
 use Rattle.model.specs.Laws.Layout.{holds-settings}
 use Rattle.model.specs.Laws.Memory.{holds-represented}
 use Rattle.model.specs.Laws.Listing.{listed-le}
 use Rattle.tree.specs.Operations.{IsTree}
+use Rattle.tree.specs.Standing.{root-stands, root-total}
 use Rattle.tree_query.specs.declared.walk.Found.{Found}
-use Rattle.tree_query.specs.Rows.{keptAll, kept-whole}
+use Rattle.tree_query.specs.Rows.{kept-whole}
 use Rattle.tree_query.specs.Walks.{after, rowAfter, NodeWalk, NodeWalked}
 use Rattle.tree_query.specs.Groups.{length-map}
-use Rattle.tree_query.specs.Shapes.{root-stands, root-counts}
-use Rattle.tree_query.specs.Answers.{foundIn, Met, Counted, Queried}
+use Rattle.tree_query.specs.Answers.{Met, Counted, Queried}
 
 module _ (s : State) (nodes dots : List ℕ) (rects : List ℤ) where
   pub tree-settings : IsTree s nodes dots rects → inRange (s .settings) ≡ true
@@ -51,7 +49,10 @@ module _ (s : State) (nodes dots : List ℕ) (rects : List ℤ) where
       record {
         tree = t .shape .tree;
         stands = root-stands s nodes dots rects (t .marks) (t .shape) (t .holds);
-        counts = root-counts s nodes dots rects (t .marks) (t .shape) (t .holds);
+        counts = record {
+          hits = omega (arith, root-stands s nodes dots rects (t .marks) (t .shape) (t .holds) .few);
+          opened = omega (arith, root-total s nodes dots rects (t .marks) (t .shape) (t .holds));
+        };
         fits = fits;
         cellFits = rw e (root-range (s .settings) (tree-root t));
       }

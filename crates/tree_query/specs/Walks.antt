@@ -1,53 +1,27 @@
 -- What the query's walk asks of the words, and what it leaves.
---     memoryOf     the lent rows as functions
---     Stands       a tree stands at a node, in rows that have its nodes and places
 --     after, rowAfter      what a walk has met, and the row, once some dots are listed and some nodes opened
-use mathlib.Core.Path.{_≡_, refl, ap, sym, _∙_}
-use mathlib.Core.List.{List, [], _∷_, _++_, map}
-use mathlib.Core.Bool.{Bool, true, false, cond}
-use Prim.Native.Nat.{ℕ, zero, suc, _+_, _*_, _-_, _≤_, _<_}
+use mathlib.Core.Path.{_≡_}
+use mathlib.Core.List.{List, [], _++_, map}
+use mathlib.Core.Bool.{cond}
+use Prim.Native.Nat.{ℕ, zero, suc, _+_, _-_, _≤_, _<_}
 use lib.IntN.{ℤ}
 use lib.ListN.{length}
 use Rattle.geometry.specs.declared.aabb.AABB.{AABB}
 use Rattle.geometry.specs.declared.centered_aabb.CenteredAABB.{CenteredAABB}
 use Rattle.geometry.specs.declared.node_data.NodeData.{NodeData}
 use Rattle.geometry.specs.declared.quadrants.Quadrants.{Quadrants}
-use Rattle.geometry.specs.Cells.{routeCell, mayDivide, childData, opens, InRange, cellCode}
+use Rattle.geometry.specs.Cells.{childData, opens, InRange, cellCode}
 use Rattle.model.specs.declared.Dot.{Dot}
-use Rattle.model.specs.Sums.{sumBelow}
 use Rattle.model.specs.Lists.{All, filter}
 use Rattle.model.specs.Dots.{isHit}
-use Rattle.model.specs.Trees.{Placed, Tree, leaf, branch, childNode, AllDots, Shallow, size}
+use Rattle.model.specs.Trees.{Placed, Tree, childNode, size}
 use Rattle.model.specs.Query.{hits, opened}
 use Rattle.model.specs.Layout.{none}
-use Rattle.model.specs.Memory.{Mem, firstAt, countAt, nextAt, dotAt, Chained, Represents}
-use Rattle.memory.specs.Rows.{HasNode, HasPlace, HasRect}
+use Rattle.model.specs.Memory.{Chained}
+use Rattle.tree.specs.Readings.{read}
+use Rattle.tree.specs.Standing.{InRows, nodeTotal, Stands}
 use Rattle.tree_query.specs.declared.walk.Found.{Found}
 use Rattle.tree_query.specs.Rows.{kept, keptAll}
-
-abbrev pub memoryOf : List ℕ → List ℕ → List ℤ → Mem
-memoryOf nodes dots rects = record { first = firstAt nodes; count = countAt nodes; dot = dotAt dots rects; next = nextAt dots }
-
--- ---- what the words must hold
-
-abbrev pub InRows : List ℕ → List ℤ → Placed → Type 0
-InRows dots rects d = HasPlace dots (d .place) × HasRect rects (d .place)
-
--- the rows have each node of the tree, and how many nodes it has
-abbrev pub NodesIn : List ℕ → ℕ → Tree → Type 0
-NodesIn nodes a (leaf chain) = HasNode nodes a
-NodesIn nodes a (branch g f) = HasNode nodes a × ((i : ℕ) → i < 5 → NodesIn nodes (childNode g i) (f i))
-
-abbrev pub nodeTotal : Tree → ℕ
-nodeTotal (leaf chain) = 1
-nodeTotal (branch g f) = 1 + sumBelow 5 (λ i. nodeTotal (f i))
-
-pub record Stands (nodes dots : List ℕ) (rects : List ℤ) (levels a : ℕ) (t : Tree) : Type 0 where
-  pub represents : Represents (memoryOf nodes dots rects) a t
-  pub shallow : Shallow levels t
-  pub nodesIn : NodesIn nodes a t
-  pub dotsIn : AllDots (InRows dots rects) t
-  pub few : size t ≤ 65536
 
 -- the children from 5 - left on, in order
 abbrev pub joinLast {ℓ} : {A : Type ℓ} → ℕ → (ℕ → List A) → List A
@@ -96,7 +70,7 @@ pub record Counts (found : Found) (dots nodes : ℕ) : Type 0 where
 
 pub record ChainWalk (dots : List ℕ) (rects : List ℤ) (room : ℕ) (row : List ℕ) (found : Found) (head count : ℕ) : Type 0 where
   pub chain : List Placed
-  pub stands : Chained (memoryOf [] dots rects) head chain none
+  pub stands : Chained (read [] dots rects) head chain none
   pub long : length chain ≡ count
   pub dotsIn : All (InRows dots rects) chain
   pub fits : room ≤ length row
@@ -104,7 +78,7 @@ pub record ChainWalk (dots : List ℕ) (rects : List ℤ) (room : ℕ) (row : Li
 
 unfoldable pub ChainWalked : AABB → List ℕ → List ℤ → ℕ → List ℕ → Found → ℕ → ℕ → List ℕ → Found → Type 0
 ChainWalked q dots rects room row found head count row′ r =
-    (chain : List Placed) → Chained (memoryOf [] dots rects) head chain none → length chain ≡ count → Left room row found (chainHits q chain) 0 row′ r
+    (chain : List Placed) → Chained (read [] dots rects) head chain none → length chain ≡ count → Left room row found (chainHits q chain) 0 row′ r
 
 pub record NodeWalk (cell : CenteredAABB) (nodes dots : List ℕ) (rects : List ℤ) (room : ℕ) (row : List ℕ) (found : Found) (a levels : ℕ) : Type 0 where
   pub tree : Tree

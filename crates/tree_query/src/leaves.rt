@@ -3,11 +3,12 @@ ghost use mathlib.Core.Path.{_≡_};
 ghost use Prim.Native.Nat.{_+_, _≤_};
 ghost use lib.ListN.{length};
 ghost use Rattle.tree_query.specs.Rows.{kept, keptAll};
-ghost use Rattle.tree_query.specs.Answers.{HasTree, LeavesMet, LeavesListed, leafReply};
+ghost use Rattle.tree_query.specs.Answers.{LeavesMet, LeavesListed, leafReply};
 ghost use Rattle.tree_query.specs.Leaves.{wordsOf, LeafWalk, LeafGroup, LeafWalked, LeafGroupWalked};
 use geometry::node_data::NodeData;
 use memory::words::node_at;
 use model::State;
+ghost use Rattle.tree.specs.Operations.{HasTree};
 
 // Refused 8, with how many leaves there are; or how many the row now begins with.
 pub enum LeafListing {

@@ -15,8 +15,8 @@ use Rattle.model.specs.Layout.{world}
 use Rattle.model.specs.Calls.{Reply, refused, answered, Listed, Query, All, Leaves, Insert, Remove, Cleanup, queryRule, leavesRule, insertRule, removeRule, cleanupRule}
 use Rattle.model.specs.Laws.Listing.{all-query}
 use Rattle.tree_check.specs.Checks.{Checked}
-use Rattle.tree.specs.Operations.{CarriedOut}
-use Rattle.tree_query.specs.Answers.{HasTree, Queried, LeavesListed}
+use Rattle.tree.specs.Operations.{CarriedOut, HasTree}
+use Rattle.tree_query.specs.Answers.{Queried, LeavesListed}
 use Rattle.tree_cleanup.specs.declared.Cleaning.{Cleaning}
 use Rattle.tree_cleanup.specs.Answers.{CleanedUp}
 use Rattle.calls.specs.Laws.Pattern.{checked-tree, call-refused, call-carried}

@@ -5,8 +5,6 @@ use mathlib.Core.List.{List}
 use native.Mathlib.Omega.{arith}
 use borrow.Author.Needs.{needs}
 use Rattle.memory.specs.declared.node.Node.{Node}
-use Rattle.tree_query.specs.Groups.{not-branch, is-branch}
-use Rattle.tree_cleanup.specs.declared.Swept.{Swept}
 use Rattle.tree_cleanup.specs.Walks.{HasGroup, emptyGroup, turnedNodes, NodeCleaned, GroupWalk, GroupCleaned}
 use Rattle.tree_cleanup.specs.Laws.{node-in, leaf-cleaned, branch-in, branch-levels, branch-room, branch-group, turned-cleaned, branch-cleaned, group-none, group-node, group-rest, group-cleaned}
 use Prim.Native.Nat.{ℕ, _<_, _≤_, _+_, _-_, _*_}
@@ -22,6 +20,7 @@ use Rattle.tree_cleanup.proofs.is_empty_group.Reads as is-empty-group-r
 use Rattle.tree_cleanup.proofs.turn.Reads as turn-reads
 use Rattle.memory.proofs.node.Node.is_branch.Reads as is-branch-reads
 use Rattle.memory.proofs.words.node_at.Reads as node-at-reads
+use Rattle.tree.specs.Standing.{not-branch, is-branch}
 use Rattle.tree_cleanup.proofs.+clean_group+clean_node.{statement}
 use Rattle.tree_cleanup.proofs.+clean_group+clean_node.Tie.{close}
 

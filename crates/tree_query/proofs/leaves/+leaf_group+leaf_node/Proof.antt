@@ -5,7 +5,6 @@ use native.Mathlib.Omega.{arith}
 use borrow.Author.Needs.{needs}
 use Rattle.model.specs.Trees.{childNode}
 use Rattle.memory.specs.declared.node.Node.{Node}
-use Rattle.tree_query.specs.Groups.{not-branch, is-branch}
 use Rattle.tree_query.specs.Rows.{keptAll}
 use Rattle.tree_query.specs.Leaves.{wordsOf, LeafGroup, LeafGroupWalked}
 use Rattle.tree_query.specs.LeafLaws.{leaf-node-in, leaf-position, leaf-few, leaf-kept, branch-level, branch-group, branch-leaves, group-empty, child-cell, group-child, group-others, group-leaves}
@@ -21,6 +20,7 @@ use Rattle.tree_query.proofs.leaves.+leaf_group+leaf_node.Lts-leaf_node
 use Rattle.geometry.proofs.node_data.NodeData.child.Reads as child-reads
 use Rattle.memory.proofs.node.Node.is_branch.Reads as is-branch-reads
 use Rattle.memory.proofs.words.node_at.Reads as node-at-reads
+use Rattle.tree.specs.Standing.{not-branch, is-branch}
 use Rattle.tree_query.proofs.leaves.keep_leaf.Reads as keep-leaf-reads
 use Rattle.tree_query.proofs.leaves.+leaf_group+leaf_node.{statement}
 use Rattle.tree_query.proofs.leaves.+leaf_group+leaf_node.Tie.{close}

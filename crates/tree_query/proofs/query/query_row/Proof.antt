@@ -1,5 +1,4 @@
 -- A row with a word for each live dot has room for all that are listed; for a shorter one they are counted first.
-use mathlib.Core.Path.{ap}
 use mathlib.Core.Logic.{⊎-elim}
 use native.Mathlib.Omega.{arith}
 use Rattle.tree_query.specs.Queries.{listed-few, counted-hits, counts-fit, met-fit, queried-many, queried-listed}

@@ -9,7 +9,7 @@ use borrow.Author.Tests.{not-true, not-false}
 use Rattle.model.specs.Trees.{childNode}
 use Rattle.memory.specs.declared.node.Node.{Node}
 use Rattle.tree_query.specs.Walks.{ChainWalk, ChainWalked, GroupWalk, GroupWalked}
-use Rattle.tree_query.specs.Groups.{not-branch, is-branch, opening, node-in, opening-fits, leaf-chain, leaf-walked, branch-levels, branch-group, branch-walked, group-none, group-skip, group-skipped, group-node, group-rest, group-walked}
+use Rattle.tree_query.specs.Groups.{opening, node-in, opening-fits, leaf-chain, leaf-walked, branch-levels, branch-group, branch-walked, group-none, group-skip, group-skipped, group-node, group-rest, group-walked}
 use Prim.Native.Nat.{ℕ, _<_, _≤_, _+_, _-_, _*_}
 use borrow.Fn.Kinds.{In}
 use borrow.Fn.PlainCycle.{Measures, is, falls, and}
@@ -24,6 +24,7 @@ use Rattle.geometry.proofs.centered_aabb.CenteredAABB.split.Reads as split-read
 use Rattle.geometry.proofs.quadrants.Quadrants.at.Reads as at-reads
 use Rattle.memory.proofs.node.Node.is_branch.Reads as is-branch-reads
 use Rattle.memory.proofs.words.node_at.Reads as node-at-reads
+use Rattle.tree.specs.Standing.{not-branch, is-branch}
 use Rattle.tree_query.proofs.walk.walk_chain.Reads as walk-chain-reads
 use Rattle.tree_query.proofs.walk.+walk_group+walk_node.{statement}
 use Rattle.tree_query.proofs.walk.+walk_group+walk_node.Tie.{close}

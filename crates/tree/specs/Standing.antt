@@ -1,35 +1,59 @@
--- The walk from the root of a memory that is a tree.
---     root-stands  the tree stands at node 0, and its dots and nodes are few enough to be counted
---     root-walk, root-walked       what the walk from the root asks, and what it leaves: the ids that a query lists, and the nodes opened
+-- A tree that stands in the rows, as the walks meet it.
+--     Stands       a tree stands at a node, in rows that have its nodes and places
+--     not-branch, is-branch        what a test for a branch says of the count
+--     root-stands, root-total      the tree of a memory stands at node 0, and its nodes are few enough to be counted
 use mathlib.Core.Path.{_≡_, refl, ap, sym, _∙_, subst}
-use mathlib.Core.List.{List, [], _∷_, _++_, map}
-use mathlib.Core.Bool.{true, false}
-use Prim.Native.Nat.{ℕ, zero, suc, _+_, _*_, _-_, _≤_, _<_}
+use mathlib.Core.List.{List, [], _∷_, map}
+use mathlib.Core.Bool.{Bool, true, false, not}
+use Prim.Native.Nat.{ℕ, _+_, _*_, _≤_, _<_}
 use native.Mathlib.Decide.{decLt}
 use native.Mathlib.Omega.{arith}
+use lib.Dec.{eqb}
 use lib.IntN.{ℤ}
 use lib.ListN.{length, length-append}
-use Rattle.geometry.specs.declared.aabb.AABB.{AABB}
-use Rattle.geometry.specs.declared.centered_aabb.CenteredAABB.{CenteredAABB}
-use Rattle.geometry.specs.declared.node_data.NodeData.{NodeData}
+use borrow.Author.Tests.{not-true, not-false, eqb-true, eqb-false}
 use Rattle.geometry.specs.Settings.{D}
-use Rattle.geometry.specs.Cells.{rootCell, rootData, InRange}
-use Rattle.geometry.specs.Laws.Ranges.{accepted, root-range}
 use Rattle.model.specs.declared.State.{State}
-use Rattle.model.specs.Sums.{indicator, indicator-same, sumOver, sumOver-one, sumBelow, sumBelow-ext, sumBelow-term, byDec}
+use Rattle.model.specs.Sums.{indicator, indicator-same, sumOver, sumOver-one, sumOver-append, sumBelow, sumBelow-ext, sumBelow-term, byDec}
 use Rattle.model.specs.Lists.{All, count, sumOver-joinBelow}
-use Rattle.model.specs.Trees.{Placed, Tree, leaf, branch, childNode, atPlace, placeCount, AllDots, size}
-use Rattle.model.specs.Query.{hits, opened}
-use Rattle.model.specs.Shapes.{Shape, Valid, below, root, listed, opensFor}
-use Rattle.model.specs.Layout.{World, world, NodeEntry, treeNodes, freeGroupNodes, nodeEntries, Holds}
-use Rattle.model.specs.Memory.{Represented}
+use Rattle.model.specs.Trees.{Placed, Tree, leaf, branch, childNode, atPlace, placeCount, AllDots, Shallow, size}
+use Rattle.model.specs.Shapes.{Shape, Valid, below}
+use Rattle.model.specs.Layout.{world, branchMark, NodeEntry, treeNodes, freeGroupNodes, nodeEntries, Holds}
+use Rattle.model.specs.Memory.{countAt, Represents, Represented}
 use Rattle.model.specs.Laws.Shapes.{below-yes, below-no, once-length, live-and-free, sumOver-map, valid-height}
 use Rattle.model.specs.Laws.Entries.{nodeIs, nodes-once, node-range, node-there}
 use Rattle.model.specs.Laws.Memory.{holds-represented}
+use Rattle.memory.specs.declared.node.Node.{Node}
+use Rattle.memory.specs.Nodes.{nodeAt}
 use Rattle.memory.specs.Rows.{HasNode, HasPlace, HasRect}
-use Rattle.tree_query.specs.declared.walk.Found.{Found}
-use Rattle.tree_query.specs.Rows.{keptAll}
-use Rattle.tree_query.specs.Walks.{InRows, NodesIn, nodeTotal, Stands, after, rowAfter, Left, Counts, NodeWalk, NodeWalked}
+use Rattle.tree.specs.Readings.{read}
+
+abbrev pub InRows : List ℕ → List ℤ → Placed → Type 0
+InRows dots rects d = HasPlace dots (d .place) × HasRect rects (d .place)
+
+-- the rows have each node of the tree, and how many nodes it has
+abbrev pub NodesIn : List ℕ → ℕ → Tree → Type 0
+NodesIn nodes a (leaf chain) = HasNode nodes a
+NodesIn nodes a (branch g f) = HasNode nodes a × ((i : ℕ) → i < 5 → NodesIn nodes (childNode g i) (f i))
+
+abbrev pub nodeTotal : Tree → ℕ
+nodeTotal (leaf chain) = 1
+nodeTotal (branch g f) = 1 + sumBelow 5 (λ i. nodeTotal (f i))
+
+pub record Stands (nodes dots : List ℕ) (rects : List ℤ) (levels a : ℕ) (t : Tree) : Type 0 where
+  pub represents : Represents (read nodes dots rects) a t
+  pub shallow : Shallow levels t
+  pub nodesIn : NodesIn nodes a t
+  pub dotsIn : AllDots (InRows dots rects) t
+  pub few : size t ≤ 65536
+
+-- ---- what a test for a branch says of the count
+
+pub not-branch : (nodes : List ℕ) (a : ℕ) {w : Node} {b : Bool} → w ≡ nodeAt nodes a → b ≡ eqb (w .count) branchMark → not b ≡ true → countAt nodes a ≡ branchMark → ⊥
+not-branch nodes a {w} {b} e f n h = eqb-false (w .count) branchMark (sym f ∙ not-true b n) (ap (λ (x : Node). x .count) e ∙ h)
+
+pub is-branch : (nodes : List ℕ) (a : ℕ) {w : Node} {b : Bool} → w ≡ nodeAt nodes a → b ≡ eqb (w .count) branchMark → not b ≡ false → countAt nodes a ≡ branchMark
+is-branch nodes a {w} {b} e f n = sym (ap (λ (x : Node). x .count) e) ∙ eqb-true (w .count) branchMark (sym f ∙ not-false b n)
 
 -- ---- every node and place of a tree, by counting
 
@@ -87,9 +111,9 @@ module _ (s : State) (nodes dots : List ℕ) (rects : List ℤ) (marks : List �
       let few = live-and-free x v in
       record {
         represents = r .tree;
-        shallow = subst (λ t. Rattle.model.specs.Trees.Shallow (D t) (x .tree)) (sym (r .settings)) (valid-height x v);
+        shallow = subst (λ t. Shallow (D t) (x .tree)) (sym (r .settings)) (valid-height x v);
         nodesIn = nodes-in nodes 0 (x .tree) (λ k c.
-            omega (arith, r .nodes, node-range x v k (omega (arith, Rattle.model.specs.Sums.sumOver-append (nodeIs k) (treeNodes 0 (x .tree)) (freeGroupNodes (x .freeGroups))))));
+            omega (arith, r .nodes, node-range x v k (omega (arith, sumOver-append (nodeIs k) (treeNodes 0 (x .tree)) (freeGroupNodes (x .freeGroups))))));
         dotsIn = dots-in (λ p. HasPlace dots p × HasRect rects p) (x .tree) (λ k c.
             byDec (decLt k (x .places))
             (λ b. (omega (arith, r .dots), omega (arith, r .rects)))
@@ -97,17 +121,15 @@ module _ (s : State) (nodes dots : List ℕ) (rects : List ℤ) (marks : List �
         few = omega (arith, few, v .placesFit);
       }
 
-  pub root-counts : Counts (record { hits = 0; opened = 0 }) (size (x .tree)) (nodeTotal (x .tree))
-  root-counts =
+  -- its nodes are few enough to be counted
+  pub root-total : nodeTotal (x .tree) ≤ 81921
+  root-total =
       let v = h .valid in
-      record {
-        hits = omega (arith, live-and-free x v, v .placesFit);
-        opened = omega (
-          arith,
-          nodes-all x v,
-          length-append (treeNodes 0 (x .tree)) (freeGroupNodes (x .freeGroups)),
-          sumOver-one (treeNodes 0 (x .tree)),
-          total-nodes 0 (x .tree),
-          v .groupsFit,
-        );
-      }
+      omega (
+        arith,
+        nodes-all x v,
+        length-append (treeNodes 0 (x .tree)) (freeGroupNodes (x .freeGroups)),
+        sumOver-one (treeNodes 0 (x .tree)),
+        total-nodes 0 (x .tree),
+        v .groupsFit,
+      )
