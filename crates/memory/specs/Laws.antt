@@ -4,7 +4,7 @@
 --     first-set, count-set, next-set, id-set, rect-set     the word that is stored
 --     next-id, id-next     the word beside it
 --     node-length, next-length, id-length, rect-length     rows keep their lengths
-use mathlib.Core.Path.{_≡_, refl, ap, sym, _∙_, fun-ext}
+use mathlib.Core.Path.{_≡_, ap, sym, _∙_, fun-ext}
 use mathlib.Core.Logic.{_≢_}
 use mathlib.Core.List.{List}
 use Prim.Native.Nat.{ℕ, _+_, _*_, _<_}

@@ -10,7 +10,7 @@ use lib.ListN.{length}
 use lib.Dec.{leb}
 use Rattle.geometry.specs.declared.settings.Settings.{Settings}
 use Rattle.geometry.specs.declared.node_data.NodeData.{NodeData}
-use Rattle.geometry.specs.Cells.{routeCell, mayDivide, childData, route, maySplit}
+use Rattle.geometry.specs.Cells.{childData, route, maySplit}
 use Rattle.model.specs.Sums.{changed}
 use Rattle.model.specs.Trees.{Placed, Tree, leaf, branch}
 

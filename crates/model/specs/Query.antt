@@ -9,7 +9,7 @@ use lib.IntN.{ℤ, pos}
 use lib.ListN.{length}
 use Rattle.geometry.specs.declared.aabb.AABB.{AABB}
 use Rattle.geometry.specs.declared.node_data.NodeData.{NodeData}
-use Rattle.geometry.specs.Cells.{routeCell, mayDivide, childData, opens}
+use Rattle.geometry.specs.Cells.{childData, opens}
 use Rattle.model.specs.Sums.{sumBelow}
 use Rattle.model.specs.Lists.{joinBelow, filter}
 use Rattle.model.specs.Dots.{isHit}

@@ -6,7 +6,7 @@ use mathlib.Core.Bool.{Bool, true, false, cond}
 use Prim.Native.Nat.{ℕ}
 use Rattle.geometry.specs.declared.aabb.AABB.{AABB}
 use Rattle.geometry.specs.declared.node_data.NodeData.{NodeData}
-use Rattle.geometry.specs.Cells.{routeCell, mayDivide, childData, route}
+use Rattle.geometry.specs.Cells.{childData, route}
 use Rattle.model.specs.Sums.{changed}
 use Rattle.model.specs.Dots.{matches}
 use Rattle.model.specs.Trees.{Placed, Tree, leaf, branch}

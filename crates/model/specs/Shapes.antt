@@ -16,7 +16,7 @@ use Rattle.geometry.specs.declared.aabb.AABB.{AABB}
 use Rattle.geometry.specs.declared.settings.Settings.{Settings}
 use Rattle.geometry.specs.declared.node_data.NodeData.{NodeData}
 use Rattle.geometry.specs.Settings.{inRange, D}
-use Rattle.geometry.specs.Cells.{routeCell, mayDivide, rootData, childData, maySplit}
+use Rattle.geometry.specs.Cells.{rootData, childData, maySplit}
 use Rattle.model.specs.declared.Dot.{Dot}
 use Rattle.model.specs.Lists.{All, upTo, count}
 use Rattle.model.specs.Dots.{acceptableDot}

@@ -31,7 +31,7 @@ use Rattle.model.specs.Sums.{sumOver, sumOver-one, changed, changed-all, byDec}
 use Rattle.model.specs.Lists.{All}
 use Rattle.model.specs.Dots.{acceptableDot}
 use Rattle.model.specs.Trees.{Placed, leaf}
-use Rattle.model.specs.Insert.{routeDot, deal, dealt, mustSplit}
+use Rattle.model.specs.Insert.{routeDot, deal, mustSplit}
 use Rattle.model.specs.Laws.Insert.{splitCount, levels-suffice}
 use Rattle.model.specs.declared.Dot.{Dot}
 use Rattle.model.specs.Memory.{nextAt, rectAt}

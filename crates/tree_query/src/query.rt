@@ -1,5 +1,4 @@
 // Query: the ids of the dots that a rectangle meets, and the nodes opened.
-ghost use mathlib.Core.Path.{_≡_};
 ghost use Prim.Native.Nat.{_≤_};
 ghost use lib.ListN.{length};
 ghost use Rattle.tree.specs.Operations.{IsTree};

@@ -1,7 +1,7 @@
 -- Each call obeys its statement: the check's refusal, and the operation without the check.
 --     query-refused, query-answered; all-refused, all-answered; leaves-refused, leaves-answered
 --     insert-refused, insert-answered; remove-refused, remove-answered; cleanup-refused, cleanup-answered
-use mathlib.Core.Path.{_≡_, sym, _∙_}
+use mathlib.Core.Path.{_≡_}
 use mathlib.Core.List.{List, []}
 use mathlib.Core.Bool.{Bool}
 use Prim.Native.Nat.{ℕ}

@@ -3,19 +3,18 @@
 --     batch-append a batch of two lists is the first, then the second
 --     record-valid, batch-valid    it keeps the tree
 --     insert-record, remove-record, cleanup-record, other-record   a record is its single operation
-use mathlib.Core.Path.{_≡_, refl, ap, sym, _∙_, subst}
+use mathlib.Core.Path.{_≡_, refl, ap, sym, subst}
 use mathlib.Core.Logic.{⊎-elim}
 use mathlib.Core.List.{List, [], _∷_, _++_}
-use mathlib.Core.Bool.{Bool, true, false}
-use Prim.Native.Nat.{ℕ, suc, _+_, _≤_}
+use Prim.Native.Nat.{ℕ, suc, _+_}
 use lib.ListN.{length}
 use lib.Dec.{eqb}
 use borrow.Author.Tests.{eq-eqb, ne-eqb}
 use Rattle.arithmetic.specs.Tests.{byBool}
 use Rattle.model.specs.declared.Dot.{Dot}
 use Rattle.model.specs.declared.Record.{Record}
-use Rattle.model.specs.Shapes.{Shape, Valid, inserted, splitsMade, removed, foundBy, cleaned, cleans}
-use Rattle.model.specs.Calls.{Verdict, refuse, overflow, accept, Recorded, recorded, refusedWord, yesNo, insertRule, removeRule, cleanupRule, carryOut, batchShape, batchWords}
+use Rattle.model.specs.Shapes.{Shape, Valid, foundBy}
+use Rattle.model.specs.Calls.{recorded, refusedWord, yesNo, insertRule, removeRule, cleanupRule, carryOut, batchShape, batchWords}
 use Rattle.model.specs.Laws.Shapes.{inserted-valid, removed-valid, cleaned-valid}
 use Rattle.model.specs.Laws.Calls.{insert-cases}
 

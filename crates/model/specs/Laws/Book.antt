@@ -13,7 +13,7 @@ use native.Mathlib.Decide.{ℕ-discrete, decLe}
 use native.Mathlib.Omega.{arith}
 use lib.Dec.{eqb}
 use borrow.Author.Tests.{eqb-true}
-use Rattle.arithmetic.specs.Tests.{byBool, true-false}
+use Rattle.arithmetic.specs.Tests.{byBool}
 use Rattle.geometry.specs.declared.aabb.AABB.{AABB}
 use Rattle.geometry.specs.Rectangles.{sameRect}
 use Rattle.model.specs.declared.Dot.{Dot}
@@ -21,7 +21,6 @@ use Rattle.model.specs.Sums.{indicator, indicator-same, indicator-other,
 use Rattle.model.specs.Lists.{filter}
 use Rattle.model.specs.Dots.{isHit}
 use Rattle.model.specs.Trees.{Placed, Tree, sumDots, dots, sumDots-dots}
-use Rattle.model.specs.Calls.{Reply}
 use Rattle.model.specs.Book.{Event, insert, remove, cleanup, query, accepted, saidYes, without, entered, bookAfter, Has, Live, meeting}
 use Rattle.model.specs.Laws.Remove.{sameRect-same}
 

@@ -16,7 +16,7 @@ use Rattle.model.specs.Sums.{sumOver, sumOver-one, sumBelow, sumBelow-ex
 use Rattle.arithmetic.specs.Tests.{byBool, true-false}
 use Rattle.model.specs.Trees.{Placed, Tree, leaf, branch, sumDots, sumGroups, AllDots, Shallow, size}
 use Rattle.model.specs.Insert.{routeDot}
-use Rattle.geometry.specs.Cells.{routeCell, mayDivide, childData, route}
+use Rattle.geometry.specs.Cells.{childData}
 use Rattle.model.specs.Cleanup.{isZero, busy, allEmpty, cleanTree, downFrom, freedBy, turned}
 use Rattle.model.specs.Laws.Query.{Routed, Clean, clean-live}
 use Rattle.model.specs.Shapes.{WellFormed}

@@ -1,7 +1,6 @@
 -- The order of a dealt chain: that of child k is the parent's chain, filtered to k, in reverse.
 use mathlib.Core.Path.{_≡_, refl, ap, sym, _∙_}
 use mathlib.Core.List.{List, [], _∷_, reverse, reverseAux}
-use mathlib.Core.Bool.{true, false}
 use Prim.Native.Nat.{ℕ}
 use lib.Dec.{eqb}
 use borrow.Author.Tests.{eqb-true, eqb-false}

@@ -13,7 +13,7 @@ use native.Mathlib.Decide.{ℕ-discrete}
 use native.Mathlib.Omega.{arith}
 use lib.ListN.{length, take, drop}
 use lib.Seq.{take-append-seam}
-use lib.Dec.{eqb, ltb}
+use lib.Dec.{ltb}
 use Rattle.geometry.specs.declared.aabb.AABB.{AABB}
 use Rattle.geometry.specs.declared.settings.Settings.{Settings}
 use Rattle.model.specs.Sums.{indicator, indicator-same, indicator-other, indicator-le, sumOver, sumOver-one, byDec}
@@ -21,17 +21,17 @@ use Rattle.model.specs.Lists.{count}
 use Rattle.arithmetic.specs.Tests.{byBool, true-false}
 use Rattle.model.specs.declared.Dot.{Dot}
 use Rattle.model.specs.Dots.{isHit}
-use Rattle.geometry.specs.Settings.{rootOf, inRange, D}
-use Rattle.model.specs.Trees.{Placed, Tree, leaf, branch, sumDots, dots, sumDots-dots, size}
+use Rattle.geometry.specs.Settings.{D}
+use Rattle.model.specs.Trees.{Placed, sumDots, dots, sumDots-dots, size}
 use Rattle.model.specs.Query.{hits}
 use Rattle.model.specs.Cleanup.{isZero, turned}
 use Rattle.model.specs.Remove.{removeSays, removeAt}
-use Rattle.model.specs.Shapes.{Shape, Valid, WellFormed, fresh, inserted, removed, foundBy, cleaned, cleans, listed, opensFor, root, placedIn}
-use Rattle.model.specs.Layout.{World, groupsOf, placesOf, lengthsRight, Holds}
+use Rattle.model.specs.Shapes.{Shape, Valid, fresh, inserted, removed, foundBy, cleaned, cleans, listed, opensFor, root, placedIn}
+use Rattle.model.specs.Layout.{World, groupsOf, placesOf, Holds}
 use Rattle.model.specs.Calls.{Reply, refused, tooMany, answered, Listed, Make, Cleanup, Query}
 use Rattle.model.specs.Book.{Event, insert, remove, cleanup, query, Happens, Run, accepted, saidYes, without, entered, bookAfter, book, Has, Live, Fine, DistinctFrom, Quiet, cleanups, meeting, Exactly, Promise, Demand3}
 use borrow.Author.Tests.{leb-true}
-use Rattle.model.specs.Laws.Query.{Routed, hits-filter, opened-le, Clean, branches-le}
+use Rattle.model.specs.Laws.Query.{hits-filter, opened-le, Clean, branches-le}
 use Rattle.model.specs.Laws.Cleanup.{clean-sum, no-clean, clean-no, Tidy, tidy-suc, shallow-tidy, tidy-clean, tidy-zero, clean-tidy}
 use Rattle.model.specs.Laws.Insert.{insert-sum}
 use borrow.Author.Tests.{eq-eqb}

@@ -4,11 +4,10 @@
 use mathlib.Core.Path.{_≡_, sym}
 use mathlib.Core.Bool.{true}
 use Prim.Native.Nat.{ℕ}
-use lib.Dec.{eqb}
 use borrow.Author.Tests.{eqb-true, eq-eqb}
 use Rattle.geometry.specs.declared.aabb.AABB.{AABB}
 use Rattle.geometry.specs.declared.node_data.NodeData.{NodeData}
-use Rattle.geometry.specs.Cells.{routeCell, route, opens}
+use Rattle.geometry.specs.Cells.{route, opens}
 use Rattle.geometry.specs.Laws.Geometry.{prune}
 use Rattle.model.specs.declared.Dot.{Dot}
 use Rattle.model.specs.Dots.{isHit, matches}

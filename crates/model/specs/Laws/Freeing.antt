@@ -4,12 +4,12 @@
 --     turned-count how many they are: cleanup says yes where that is not 0
 use mathlib.Core.Path.{_≡_, refl, ap, ap₂, sym, _∙_}
 use mathlib.Core.List.{List, [], _∷_, _++_, map, reverse, reverseAux, reverseAux-append, reverseAux-eq}
-use mathlib.Core.Bool.{Bool, true, false}
+use mathlib.Core.Bool.{Bool, true}
 use Prim.Native.Nat.{ℕ, zero, suc, _+_, _<_}
 use native.Mathlib.Omega.{arith}
 use lib.ListN.{length, length-append}
 use Rattle.arithmetic.specs.Tests.{byBool}
-use Rattle.model.specs.Sums.{sumBelow, sumBelow-ext}
+use Rattle.model.specs.Sums.{sumBelow}
 use Rattle.model.specs.Lists.{filter, filter-append}
 use Rattle.model.specs.Trees.{Tree, leaf, branch}
 use Rattle.model.specs.Cleanup.{busy, allEmpty, downFrom, freedBy, turned}

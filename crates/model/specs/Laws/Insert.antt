@@ -20,9 +20,9 @@ use Rattle.model.specs.Lists.{All}
 use Rattle.arithmetic.specs.Tests.{byBool, true-false}
 use Rattle.model.specs.Trees.{Placed, Tree, leaf, branch, sumDots, sumGroups, AllDots, Shallow}
 use Rattle.model.specs.Dots.{acceptableDot}
-use Rattle.geometry.specs.Cells.{routeCell, mayDivide, childData, route, maySplit}
+use Rattle.geometry.specs.Cells.{childData, route, maySplit}
 use Rattle.geometry.specs.Laws.Geometry.{route-child, levelsLeft, levels-fall}
-use Rattle.model.specs.Insert.{Grown, routeDot, deal, dealt, mustSplit, insertAt}
+use Rattle.model.specs.Insert.{routeDot, deal, dealt, mustSplit, insertAt}
 use Rattle.model.specs.Laws.Query.{Routed}
 use Rattle.model.specs.Shapes.{WellFormed}
 

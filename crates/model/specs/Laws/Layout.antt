@@ -13,7 +13,7 @@ use Rattle.arithmetic.specs.Linear.{and-t}
 use borrow.Author.Tests.{leb-true}
 use Rattle.model.specs.Lists.{length-joinBelow}
 use Rattle.arithmetic.specs.Tests.{byBool}
-use Rattle.geometry.specs.Settings.{rootOf, inRange}
+use Rattle.geometry.specs.Settings.{inRange}
 use Rattle.model.specs.Shapes.{Shape, Valid}
 use Rattle.model.specs.Layout.{World, groupsOf, placesOf, nodesRight, dotsRight, marksRight, lengthsRight, NodeEntry, PlaceEntry, nodeEntries, placeEntries, nodeWords, dotWords, placeRect, stateOf, layout, cleared, Holds}
 use Rattle.model.specs.Calls.{Verdict, Exit, carriedOut, Obeys}

@@ -3,11 +3,11 @@
 --     listed-le    and at most live of them
 --     references-dots      the references are the dots in all leaves
 --     all-query    all, today, is a query with the root's rectangle
-use mathlib.Core.Path.{_≡_, refl, ap, sym, _∙_, subst}
+use mathlib.Core.Path.{_≡_, ap, sym, _∙_}
 use mathlib.Core.Logic.{_↔_}
 use mathlib.Core.List.{List, [], _∷_, map}
-use mathlib.Core.Bool.{Bool, true, _&&_}
-use Prim.Native.Nat.{ℕ, _+_, _≤_}
+use mathlib.Core.Bool.{Bool}
+use Prim.Native.Nat.{ℕ, _≤_}
 use native.Mathlib.Omega.{arith}
 use lib.ListN.{length}
 use Rattle.arithmetic.specs.Tests.{byBool}
@@ -16,11 +16,11 @@ use Rattle.geometry.specs.Settings.{rootRect}
 use Rattle.model.specs.Sums.{sumOver, sumOver-one}
 use Rattle.model.specs.Lists.{filter}
 use Rattle.model.specs.Dots.{isHit}
-use Rattle.model.specs.Trees.{Placed, Tree, atPlace, size, sumDots, dots, sumDots-dots}
+use Rattle.model.specs.Trees.{Placed, atPlace, size, sumDots, dots, sumDots-dots}
 use Rattle.model.specs.Query.{hits}
 use Rattle.model.specs.Shapes.{Shape, Valid, root, listed, references}
 use Rattle.model.specs.Layout.{World, Holds}
-use Rattle.model.specs.Calls.{Reply, Listed, exit, carriedOut, Obeys, queryRule, allRule, Query, All}
+use Rattle.model.specs.Calls.{Reply, Listed, carriedOut, queryRule, allRule, Query, All}
 use Rattle.model.specs.Laws.Query.{hits-filter}
 use Rattle.model.specs.Laws.Shapes.{below-le, sumOver-map, shape-routed}
 use Rattle.model.specs.Laws.Layout.{holds-settings}

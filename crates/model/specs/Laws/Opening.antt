@@ -2,25 +2,24 @@
 --     Opened       the nodes that a query opens: the root; of an opened branch child 0 and each child 1 to 4 with both tests true
 --     openedNodes  the same as a list
 --     opened-nodes         THE LAW: the count is the length of a list that has each opened node once, and no other number
-use mathlib.Core.Path.{_≡_, refl, ap, sym, _∙_, subst}
+use mathlib.Core.Path.{_≡_, refl, sym, _∙_, subst}
 use mathlib.Core.Logic.{_↔_}
 use mathlib.Core.List.{List, [], _∷_}
-use mathlib.Core.Bool.{Bool, true, false, cond}
-use Prim.Native.Nat.{ℕ, zero, suc, _+_, _≤_, _<_}
+use mathlib.Core.Bool.{true, cond}
+use Prim.Native.Nat.{ℕ, _+_, _≤_, _<_}
 use native.Mathlib.Decide.{ℕ-discrete}
 use native.Mathlib.Omega.{arith}
 use lib.ListN.{length}
-use lib.Dec.{eqb}
-use Rattle.arithmetic.specs.Tests.{byBool, true-false}
+use Rattle.arithmetic.specs.Tests.{byBool}
 use Rattle.geometry.specs.declared.aabb.AABB.{AABB}
 use Rattle.geometry.specs.declared.node_data.NodeData.{NodeData}
-use Rattle.geometry.specs.Cells.{routeCell, mayDivide, childData, opens, bothTests}
+use Rattle.geometry.specs.Cells.{childData, opens, bothTests}
 use Rattle.model.specs.Sums.{indicator, indicator-same, indicator-other, indicator-eq, sumOver, sumOver-one, sumOver-append, sumBelow, sumBelow-ext, sumBelow-le, sumBelow-term, sumBelow-some, byDec}
 use Rattle.model.specs.Lists.{joinBelow, count, sumOver-joinBelow}
 use Rattle.model.specs.Trees.{Tree, leaf, branch, childNode}
 use Rattle.model.specs.Query.{opened}
 use Rattle.model.specs.Shapes.{Shape, Valid, root, opensFor}
-use Rattle.model.specs.Layout.{treeNodes, freeGroupNodes, nodeEntries}
+use Rattle.model.specs.Layout.{treeNodes, freeGroupNodes}
 use Rattle.model.specs.Laws.Entries.{nodeIs, nodes-once}
 
 -- 'in a branch child 0 first': it is always opened

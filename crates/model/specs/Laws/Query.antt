@@ -20,7 +20,7 @@ use Rattle.model.specs.Trees.{Placed, Tree, leaf, branch, sumGroups, All
 use Rattle.model.specs.Insert.{routeDot}
 use Rattle.model.specs.Dots.{isHit}
 use Rattle.model.specs.Laws.Dots.{hit-opens}
-use Rattle.geometry.specs.Cells.{routeCell, mayDivide, childData, route, opens}
+use Rattle.geometry.specs.Cells.{childData, opens}
 use Rattle.model.specs.Query.{hits, opened, leavesOf, leafCount}
 use Rattle.model.specs.Cleanup.{busy}
 

@@ -19,7 +19,7 @@ use Rattle.model.specs.Trees.{Placed, Tree, leaf, branch, sumDots, sumGr
 use Rattle.model.specs.Insert.{routeDot}
 use Rattle.model.specs.Dots.{acceptableDot, matches}
 use Rattle.model.specs.Laws.Dots.{match-id, id-match}
-use Rattle.geometry.specs.Cells.{routeCell, mayDivide, childData, route}
+use Rattle.geometry.specs.Cells.{childData, route}
 use Rattle.geometry.specs.Rectangles.{sameRect}
 use Rattle.geometry.specs.Laws.Geometry.{route-child}
 use lib.IntN.{ℤ}

@@ -23,7 +23,7 @@ use Rattle.geometry.specs.Settings.{rootFits, between, inRange, D}
 use Rattle.model.specs.declared.Dot.{Dot}
 use Rattle.model.specs.Dots.{acceptableDot}
 use Rattle.geometry.specs.declared.node_data.NodeData.{NodeData}
-use Rattle.geometry.specs.Cells.{routeCell, mayDivide, rootData, childData, maySplit}
+use Rattle.geometry.specs.Cells.{mayDivide, rootData, childData}
 use Rattle.model.specs.Trees.{Placed, Tree, leaf, branch, dots, sumDots-dots, atPlace, size, Shallow}
 use Rattle.model.specs.Shapes.{Shape, Valid, WellFormed, below, fresh, inserted, splitsNeeded, removed, foundBy, cleaned, headOf, tailOf, root, placedIn}
 use borrow.Author.Tests.{leb-true}

@@ -6,7 +6,6 @@
 --     made-fewer           one that doesn't makes fewer, so that refusal 7 is told exactly by the insert itself
 use mathlib.Core.Path.{_≡_, refl, sym, _∙_}
 use mathlib.Core.List.{List, [], _∷_}
-use mathlib.Core.Bool.{true, false}
 use Prim.Native.Nat.{ℕ, zero, suc, _+_, _≤_, _<_}
 use native.Mathlib.Omega.{arith}
 use lib.ListN.{length, length-append}
@@ -14,11 +13,11 @@ use Rattle.arithmetic.specs.Tests.{byBool}
 use Rattle.geometry.specs.declared.settings.Settings.{Settings}
 use Rattle.geometry.specs.declared.node_data.NodeData.{NodeData}
 use Rattle.geometry.specs.Settings.{D}
-use Rattle.geometry.specs.Cells.{routeCell, mayDivide, childData}
+use Rattle.geometry.specs.Cells.{childData}
 use Rattle.model.specs.declared.Dot.{Dot}
 use Rattle.model.specs.Lists.{upTo}
 use Rattle.model.specs.Trees.{Placed, Tree, leaf, branch}
-use Rattle.model.specs.Insert.{Grown, routeDot, dealt, mustSplit, insertAt}
+use Rattle.model.specs.Insert.{routeDot, dealt, mustSplit, insertAt}
 use Rattle.model.specs.Shapes.{Shape, root, grownBy, placedIn, splitsMade, splitsNeeded}
 use Rattle.model.specs.Laws.Insert.{splitCount, insert-splits, split-count-le}
 
