@@ -3,6 +3,7 @@
 --     Reads        fields at the front of bytes, and what is left of them
 --     Whole        fields and nothing else
 --     Put          bytes put into a row at a place
+--     Written      a row that begins with bytes
 --     untilComma, fromComma      the bytes before the first comma, and from it on
 --     value        what the reader makes of bytes before it holds them against the text
 use mathlib.Core.Path.{_≡_}
@@ -44,6 +45,11 @@ pub record Whole (kinds : List Kind) (bytes : List ℕ) (read? : Bool) (zs : Lis
 pub record Put (row₀ : List ℕ) (at : ℕ) (bytes row : List ℕ) (next : ℕ) : Type 0 where
   pub ends : next ≡ at + length bytes
   pub holds : take next row ≡ take at row₀ ++ bytes
+
+-- a row that begins with the bytes, up to next
+pub record Written (row : List ℕ) (next : ℕ) (bytes : List ℕ) : Type 0 where
+  pub within : next ≤ length row
+  pub holds : take next row ≡ bytes
 
 unfoldable pub untilComma : List ℕ → List ℕ
 untilComma [] = []
