@@ -40,7 +40,7 @@ returns c = let ids = take (c .before .before .before .before .before .before .b
     let h = pos (c .before .before .before .before .before .before .before .before .before .before .before .before .before .before .before .before .before .before .before .before .before .before .before .args .hits) in
     let same : ids ≡ take (c .before .before .before .before .before .before .before .before .before .before .before .before .before .before .before .before .before .before .before .before .before .before .before .args .hits) (c .before .before .before .before .before .before .before .before .before .before .before .before .before .before .before .before .before .before .before .before .before .before .before .args .row .now) = c .before .before .before .before .before .before .before .listed .ensures .1 in
     let body = put-is (sym (fields-append (o ∷ []) (h ∷ map pos ids)) ∙ ap (λ (l : List ℕ). fields (map pos (c .before .before .before .before .before .before .before .before .before .before .before .before .before .before .before .before .before .before .before .before .before .before .before .args .opened ∷ c .before .before .before .before .before .before .before .before .before .before .before .before .before .before .before .before .before .before .before .before .before .before .before .args .hits ∷ l))) same)
-      (put-then (c .before .before .before .before .before .before .before .before .before .before .before .before .before .before .before .put-field .ensures) (put-is (sym (fields-append (h ∷ []) (map pos ids))) (put-then (c .before .before .before .before .before .before .before .before .before .before .before .put-field2 .ensures) (c .before .before .before .before .before .before .put-fields .ensures)))) in
+    (put-then (c .before .before .before .before .before .before .before .before .before .before .before .before .before .before .before .put-field .ensures) (put-is (sym (fields-append (h ∷ []) (map pos ids))) (put-then (c .before .before .before .before .before .before .before .before .before .before .before .put-field2 .ensures) (c .before .before .before .before .before .before .put-fields .ensures)))) in
     written 81 (c .before .before .before .before .before .before .before .before .before .before .before .before .before .before .before .before .before .before .before .before .before .before .before .args .opened ∷ c .before .before .before .before .before .before .before .before .before .before .before .before .before .before .before .before .before .before .before .before .before .before .before .args .hits ∷ take (c .before .before .before .before .before .before .before .before .before .before .before .before .before .before .before .before .before .before .before .before .before .before .before .args .hits) (c .before .before .before .before .before .before .before .before .before .before .before .before .before .before .before .before .before .before .before .before .before .before .before .args .row .now)) (c .before .before .before .before .before .before .before .before .before .before .before .before .before .before .before .before .before .before .before .put-byte .ensures) body (c .before .before .put-byte2 .ensures)
     (omega (arith, c .before .before .before .before .before .before .before .before .before .before .before .before .before .before .before .before .before .before .before .put-byte .ensures .ends, c .before .before .before .before .before .before .before .before .before .before .before .before .before .before .before .before .before .before .before .put-byte .kept .0, c .before .before .before .before .before .before .before .before .before .before .before .before .before .before .before .put-field .ensures .ends, c .before .before .before .before .before .before .before .before .before .before .before .before .before .before .before .put-field .kept .0, field-length (c .before .before .before .before .before .before .before .before .before .before .before .before .before .before .before .before .before .before .before .before .before .before .before .args .opened), c .before .before .before .before .before .before .before .before .before .before .before .put-field2 .ensures .ends, c .before .before .before .before .before .before .before .before .before .before .before .put-field2 .kept .0, field-length (c .before .before .before .before .before .before .before .before .before .before .before .before .before .before .before .before .before .before .before .before .before .before .before .args .hits), c .before .before .before .before .before .before .before .listed .ensures .0, c .before .before .before .before .before .before .put-fields .ensures .ends, c .before .before .before .before .before .before .put-fields .kept .0, row-length (take (c .before .before .before .before .before .before .before .listed .result) (c .before .before .before .before .before .before .before .before .before .before .before .before .before .before .before .before .before .before .before .before .before .before .before .args .row .now)), length-take-le (c .before .before .before .before .before .before .before .listed .result) (c .before .before .before .before .before .before .before .before .before .before .before .before .before .before .before .before .before .before .before .before .before .before .before .args .row .now) (c .before .before .before .before .before .before .before .listed .ensures .0), c .before .before .before .before .before .before .before .before .before .before .before .before .before .before .before .before .before .before .before .before .before .before .before .pre, c .before .before .put-byte2 .ensures .ends, c .before .before .put-byte2 .kept .0))
 
