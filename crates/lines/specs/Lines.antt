@@ -1,0 +1,68 @@
+-- The lines of calls (document 01, 'dotcheck').
+--     letter, kinds, values, text      a call's line
+--     LineOf                           THE STATEMENT: what a line is
+use mathlib.Core.Path.{_≡_}
+use mathlib.Core.List.{List, [], _∷_}
+use mathlib.Core.Bool.{cond, _||_}
+use Prim.Native.Nat.{ℕ, _≤_}
+use lib.IntN.{ℤ, pos}
+use lib.Dec.{eqb}
+use lib.ListN.{length, drop}
+use Rattle.geometry.specs.declared.aabb.AABB.{AABB}
+use Rattle.lines.specs.Text.{Kind, u32, i32, WithinAll, fields}
+use Rattle.lines.specs.declared.line.Call.{Call}
+use Rattle.lines.specs.declared.line.Call.the-variants.{Settings, Insert, Remove, Cleanup, Query}
+use Rattle.lines.specs.declared.line.Line.{Line}
+use Rattle.lines.specs.declared.line.Line.the-variants as line
+
+-- S, I, D, C, Q
+abbrev pub letter : Call → ℕ
+letter (Settings s) = 83
+letter (Insert d) = 73
+letter (Remove d) = 68
+letter Cleanup = 67
+letter (Query r) = 81
+
+-- a rectangle's fields
+abbrev pub four : List Kind
+four = i32 ∷ i32 ∷ i32 ∷ i32 ∷ []
+
+-- the two limits and the smallest cell
+abbrev pub three : List Kind
+three = u32 ∷ u32 ∷ u32 ∷ []
+
+-- 'Ids and the last three numbers of S are u32, the others i32' 'I and D take id and rectangle, Q a rectangle, C nothing'
+abbrev pub kinds : ℕ → List Kind
+kinds l =
+    cond (eqb l 83) (i32 ∷ i32 ∷ i32 ∷ i32 ∷ three)
+    (cond (eqb l 73 || eqb l 68) (u32 ∷ four) (cond (eqb l 81) four []))
+
+abbrev pub corners : AABB → List ℤ
+corners r = r .x1 ∷ r .y1 ∷ r .x2 ∷ r .y2 ∷ []
+
+-- 'S with left, top, width, height, depth limit, leaf limit, smallest cell'
+abbrev pub values : Call → List ℤ
+values (Settings s) =
+    s .left ∷ s .top ∷ s .width ∷ s .height ∷ pos (s .«depth_limit») ∷ pos (s .«leaf_limit») ∷ pos (s .«smallest_cell») ∷ []
+values (Insert d) = pos (d .id) ∷ corners (d .rect)
+values (Remove d) = pos (d .id) ∷ corners (d .rect)
+values Cleanup = []
+values (Query r) = corners r
+
+abbrev pub text : Call → List ℕ
+text c = letter c ∷ fields (values c)
+
+-- a call that a line can hold: its numbers in their ranges
+abbrev pub Fits : Call → Type 0
+Fits c = WithinAll (kinds (letter c)) (values c)
+
+-- a line, not too long, that begins with a letter
+pub record Begins (l : ℕ) (bytes : List ℕ) : Type 0 where
+  pub few : length bytes ≤ 80
+  pub some : 1 ≤ length bytes
+  pub first : bytes ≡ l ∷ drop 1 bytes
+
+-- 'at most 80 bytes a line before its LF': the call whose text the bytes are; else unreadable
+abbrev pub LineOf : List ℕ → Line → Type 0
+LineOf bytes (line.Call c) = (length bytes ≤ 80) × Fits c × (text c ≡ bytes)
+LineOf bytes line.Unreadable = length bytes ≤ 80 → (c : Call) → Fits c → text c ≡ bytes → ⊥

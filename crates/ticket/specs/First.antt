@@ -1,0 +1,67 @@
+-- The answer to the first line (document 01, 'dotcheck').
+--     MakeLine     make, and the line of its reply
+--     Started      the first line: S, or another line or none, 'then the end'
+use mathlib.Core.Path.{_≡_}
+use mathlib.Core.List.{List, [], _∷_}
+use Prim.Native.Nat.{ℕ}
+use Rattle.geometry.specs.declared.settings.Settings.{Settings}
+use Rattle.geometry.specs.Settings.{D}
+use Rattle.model.specs.declared.State.{State}
+use Rattle.model.specs.Layout.{World}
+use Rattle.model.specs.Calls.{Reply, refused, tooMany, answered, Make}
+use Rattle.lines.specs.Text.{answer}
+use Rattle.lines.specs.Lines.{LineOf}
+use Rattle.lines.specs.declared.line.Call.{Call}
+use Rattle.lines.specs.declared.line.Call.the-variants as call
+use Rattle.lines.specs.declared.line.Line.{Line}
+use Rattle.lines.specs.declared.line.Line.the-variants as line
+use Rattle.ticket.specs.declared.first.Start.{Start}
+use Rattle.ticket.specs.declared.first.Start.the-variants as start
+use Rattle.ticket.specs.Ticket.{replyLine}
+use Rattle.ticket.specs.Ticket as ticket
+
+abbrev pub refusalLine : ℕ → List ℕ
+refusalLine k = ticket.refusalLine k
+
+-- where the answer's bytes end
+abbrev pub endOf : Start → ℕ
+endOf (start.Going s n) = n
+endOf (start.Ended n) = n
+
+abbrev pub afterStart : State → Start → State
+afterStart before (start.Going s n) = s
+afterStart before (start.Ended n) = before
+
+-- the program goes on exactly if make was accepted
+abbrev pub GoesOn : Start → Reply (Unit {0}) → Type 0
+GoesOn r (refused k) = r ≡ start.Ended (endOf r)
+GoesOn r (tooMany n) = ⊥
+GoesOn (start.Going s n) (answered a) = Unit {0}
+GoesOn (start.Ended n) (answered a) = ⊥
+
+-- 'S,D'; '`E,2` for bad settings .. then the end'
+pub record MakeLine (w : World) (s : Settings) (r : Start) (w′ : World) (bytes : List ℕ) : Type 0 where
+  pub reply : Reply (Unit {0})
+  pub call : Make w s w′ reply
+  pub goes : GoesOn r reply
+  pub line : bytes ≡ replyLine (λ _. answer 83 (D s ∷ [])) reply
+
+-- '`E,9` for another line or none, then the end'
+pub record NoStart (w : World) (r : Start) (w′ : World) (bytes : List ℕ) : Type 0 where
+  pub ends : r ≡ start.Ended (endOf r)
+  pub kept : w′ ≡ w
+  pub line : bytes ≡ refusalLine 9
+
+abbrev pub FirstAnswer : World → Line → Start → World → List ℕ → Type 0
+FirstAnswer w (line.Call (call.Settings s)) r w′ bytes = MakeLine w s r w′ bytes
+FirstAnswer w (line.Call (call.Insert d)) r w′ bytes = NoStart w r w′ bytes
+FirstAnswer w (line.Call (call.Remove d)) r w′ bytes = NoStart w r w′ bytes
+FirstAnswer w (line.Call call.Cleanup) r w′ bytes = NoStart w r w′ bytes
+FirstAnswer w (line.Call (call.Query q)) r w′ bytes = NoStart w r w′ bytes
+FirstAnswer w line.Unreadable r w′ bytes = NoStart w r w′ bytes
+
+-- THE STATEMENT for the first line: what it says, and the answer to that
+pub record Started (w : World) (input : List ℕ) (r : Start) (w′ : World) (bytes : List ℕ) : Type 0 where
+  pub says : Line
+  pub is : LineOf input says
+  pub answer : FirstAnswer w says r w′ bytes

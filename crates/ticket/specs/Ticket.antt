@@ -1,0 +1,79 @@
+-- The answer to each line (document 01, 'dotcheck'): the call that the line is, and its answer's line.
+--     replyLine        a reply as a line
+--     InsertLine, RemoveLine, CleanupLine, QueryLine     a call and the line of its reply
+--     CallLine, Called     the same by the call
+--     Answered         a later line
+use mathlib.Core.Path.{_≡_}
+use mathlib.Core.List.{List, [], _∷_}
+use mathlib.Core.Bool.{Bool}
+use Prim.Native.Nat.{ℕ}
+use lib.ListN.{take}
+use Rattle.geometry.specs.declared.aabb.AABB.{AABB}
+use Rattle.model.specs.declared.Dot.{Dot}
+use Rattle.model.specs.Layout.{World}
+use Rattle.model.specs.Calls.{Reply, refused, tooMany, answered, Listed, yesNo, Insert, Remove, Cleanup, Query}
+use Rattle.lines.specs.Text.{answer}
+use Rattle.lines.specs.Lines.{LineOf}
+use Rattle.lines.specs.declared.line.Call.{Call}
+use Rattle.lines.specs.declared.line.Call.the-variants as call
+use Rattle.lines.specs.declared.line.Line.{Line}
+use Rattle.lines.specs.declared.line.Line.the-variants as line
+
+-- 'E,refusal'
+abbrev pub refusalLine : ℕ → List ℕ
+refusalLine k = answer 69 (k ∷ [])
+
+abbrev pub replyLine : {A : Type 0} → (A → List ℕ) → Reply A → List ℕ
+replyLine f (refused k) = refusalLine k
+replyLine f (tooMany n) = refusalLine 8
+replyLine f (answered a) = f a
+
+-- 'I,id,splits'
+pub record InsertLine (w : World) (dot : Dot) (w′ : World) (bytes : List ℕ) : Type 0 where
+  pub reply : Reply ℕ
+  pub call : Insert w dot w′ reply
+  pub line : bytes ≡ replyLine (λ splits. answer 73 (dot .id ∷ splits ∷ [])) reply
+
+-- 'D,id,1 or 0'
+pub record RemoveLine (w : World) (dot : Dot) (w′ : World) (bytes : List ℕ) : Type 0 where
+  pub reply : Reply Bool
+  pub call : Remove w (dot .id) (dot .rect) w′ reply
+  pub line : bytes ≡ replyLine (λ yes?. answer 68 (dot .id ∷ yesNo yes? ∷ [])) reply
+
+-- 'C,1 or 0'
+pub record CleanupLine (w : World) (w′ : World) (bytes : List ℕ) : Type 0 where
+  pub reply : Reply Bool
+  pub call : Cleanup w w′ reply
+  pub line : bytes ≡ replyLine (λ yes?. answer 67 (yesNo yes? ∷ [])) reply
+
+-- 'Q,opened,hits,ids (no hits: the line ends after hits)'
+pub record QueryLine (w : World) (r : AABB) (row : List ℕ) (w′ : World) (row′ bytes : List ℕ) : Type 0 where
+  pub reply : Reply Listed
+  pub call : Query w r row w′ row′ reply
+  pub line : bytes ≡ replyLine (λ l. answer 81 (l .opened ∷ l .hits ∷ take (l .hits) row′)) reply
+
+-- 'E,refusal (9: unreadable line or later S)': nothing is changed
+abbrev pub Nine : World → List ℕ → World → List ℕ → List ℕ → Type 0
+Nine w row w′ row′ bytes = (w′ ≡ w) × (row′ ≡ row) × (bytes ≡ refusalLine 9)
+
+-- a call's answer; the row is a query's
+abbrev pub CallLine : World → List ℕ → Call → World → List ℕ → List ℕ → Type 0
+CallLine w row (call.Settings s) w′ row′ bytes = Nine w row w′ row′ bytes
+CallLine w row (call.Insert dot) w′ row′ bytes = (row′ ≡ row) × InsertLine w dot w′ bytes
+CallLine w row (call.Remove dot) w′ row′ bytes = (row′ ≡ row) × RemoveLine w dot w′ bytes
+CallLine w row call.Cleanup w′ row′ bytes = (row′ ≡ row) × CleanupLine w w′ bytes
+CallLine w row (call.Query r) w′ row′ bytes = QueryLine w r row w′ row′ bytes
+
+-- the answer of the call that c is
+pub record Called (w : World) (row : List ℕ) (c : Call) (w′ : World) (row′ bytes : List ℕ) : Type 0 where
+  pub answer : CallLine w row c w′ row′ bytes
+
+abbrev pub LineAnswer : World → List ℕ → Line → World → List ℕ → List ℕ → Type 0
+LineAnswer w row (line.Call c) w′ row′ bytes = Called w row c w′ row′ bytes
+LineAnswer w row line.Unreadable w′ row′ bytes = Nine w row w′ row′ bytes
+
+-- THE STATEMENT for a later line: what it says, and the answer to that
+pub record Answered (w : World) (row input : List ℕ) (w′ : World) (row′ bytes : List ℕ) : Type 0 where
+  pub says : Line
+  pub is : LineOf input says
+  pub answer : LineAnswer w row says w′ row′ bytes

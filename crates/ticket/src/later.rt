@@ -1,0 +1,192 @@
+// A line after the first: a call on the tree.
+ghost use mathlib.Core.Path.{_≡_};
+ghost use Prim.Native.Nat.{_+_, _*_, _≤_};
+ghost use lib.ListN.{length, take};
+ghost use Rattle.model.specs.Layout.{world};
+ghost use Rattle.ticket.specs.Ticket.{InsertLine, RemoveLine, CleanupLine, QueryLine, Called, Answered, refusalLine};
+use calls::cleanup::CleanupAnswer;
+use calls::cleanup::cleanup;
+use calls::insert::InsertAnswer;
+use calls::insert::insert;
+use calls::query::QueryAnswer;
+use calls::query::query;
+use calls::remove::RemoveAnswer;
+use calls::remove::remove;
+use geometry::aabb::AABB;
+use lines::answer::answer_one;
+use lines::answer::answer_query;
+use lines::answer::answer_two;
+use lines::line::Call;
+use lines::line::Line;
+use lines::line::read_line;
+use model::Dot;
+use model::State;
+
+// The state after a line, and where the answer's bytes end.
+pub struct Step {
+    pub state: State,
+    pub next: usize,
+}
+
+pub fn answer_insert(
+    state: State,
+    nodes: &mut [u32],
+    dots: &mut [u32],
+    rects: &mut [i32],
+    marks: &mut [u8],
+    dot: Dot,
+    out: &mut [u8],
+) -> Step
+    requires { ⌜ 24 ≤ length (now out) ⌝ }
+    ensures { λ r. ⌜ r .next ≤ length (now (out .exit)) ⌝ }
+    ensures { λ r. ⌜ InsertLine (world state (now (nodes .entry)) (now (dots .entry)) (now (rects .entry)) (now (marks .entry))) dot (world (r .state) (now (nodes .exit)) (now (dots .exit)) (now (rects .exit)) (now (marks .exit))) (take (r .next) (now (out .exit))) ⌝ }
+{
+    match insert(state, nodes, dots, rects, marks, dot) {
+        InsertAnswer::Refused(number) => {
+            let next = answer_one(out, b'E', number);
+            Step { state, next }
+        }
+        InsertAnswer::Splits(splits, after) => {
+            let next = answer_two(out, b'I', dot.id, splits);
+            Step { state: after, next }
+        }
+    }
+}
+
+pub fn answer_remove(
+    state: State,
+    nodes: &mut [u32],
+    dots: &mut [u32],
+    rects: &mut [i32],
+    marks: &mut [u8],
+    dot: Dot,
+    out: &mut [u8],
+) -> Step
+    requires { ⌜ 24 ≤ length (now out) ⌝ }
+    ensures { λ r. ⌜ r .next ≤ length (now (out .exit)) ⌝ }
+    ensures { λ r. ⌜ RemoveLine (world state (now (nodes .entry)) (now (dots .entry)) (now (rects .entry)) (now (marks .entry))) dot (world (r .state) (now (nodes .exit)) (now (dots .exit)) (now (rects .exit)) (now (marks .exit))) (take (r .next) (now (out .exit))) ⌝ }
+{
+    let rect = dot.rect;
+    match remove(state, nodes, dots, rects, marks, dot.id, rect) {
+        RemoveAnswer::Refused(number) => {
+            let next = answer_one(out, b'E', number);
+            Step { state, next }
+        }
+        RemoveAnswer::Yes(after) => {
+            let next = answer_two(out, b'D', dot.id, 1);
+            Step { state: after, next }
+        }
+        RemoveAnswer::No => {
+            let next = answer_two(out, b'D', dot.id, 0);
+            Step { state, next }
+        }
+    }
+}
+
+pub fn answer_cleanup(
+    state: State,
+    nodes: &mut [u32],
+    dots: &[u32],
+    rects: &[i32],
+    marks: &mut [u8],
+    out: &mut [u8],
+) -> Step
+    requires { ⌜ 24 ≤ length (now out) ⌝ }
+    ensures { λ r. ⌜ r .next ≤ length (now (out .exit)) ⌝ }
+    ensures { λ r. ⌜ CleanupLine (world state (now (nodes .entry)) (now (dots .entry)) (now (rects .entry)) (now (marks .entry))) (world (r .state) (now (nodes .exit)) (now (dots .exit)) (now (rects .exit)) (now (marks .exit))) (take (r .next) (now (out .exit))) ⌝ }
+{
+    match cleanup(state, nodes, dots, rects, marks) {
+        CleanupAnswer::Refused(number) => {
+            let next = answer_one(out, b'E', number);
+            Step { state, next }
+        }
+        CleanupAnswer::Done(yes, after) => {
+            let next = answer_one(out, b'C', yes as u32);
+            Step { state: after, next }
+        }
+    }
+}
+
+pub fn answer_listing(
+    state: State,
+    nodes: &[u32],
+    dots: &[u32],
+    rects: &[i32],
+    marks: &mut [u8],
+    rect: AABB,
+    row: &mut [u32],
+    out: &mut [u8],
+) -> Step
+    requires { ⌜ 24 + 11 * length (now row) ≤ length (now out) ⌝ }
+    ensures { λ r. ⌜ r .next ≤ length (now (out .exit)) ⌝ }
+    ensures { λ r. ⌜ QueryLine (world state (now (nodes .entry)) (now (dots .entry)) (now (rects .entry)) (now (marks .entry))) rect (now (row .entry)) (world (r .state) (now (nodes .exit)) (now (dots .exit)) (now (rects .exit)) (now (marks .exit))) (now (row .exit)) (take (r .next) (now (out .exit))) ⌝ }
+{
+    match query(state, nodes, dots, rects, marks, rect, row) {
+        QueryAnswer::Refused(number) => {
+            let next = answer_one(out, b'E', number);
+            Step { state, next }
+        }
+        QueryAnswer::TooMany(_) => {
+            let next = answer_one(out, b'E', 8);
+            Step { state, next }
+        }
+        QueryAnswer::Listed(hits, opened) => {
+            let next = answer_query(out, opened, hits, row);
+            Step { state, next }
+        }
+    }
+}
+
+// An unreadable line, or a later S.
+fn answer_nine(state: State, out: &mut [u8]) -> Step
+    requires { ⌜ 24 ≤ length (now out) ⌝ }
+    ensures { λ r. ⌜ r .next ≤ length (now (out .exit)) ⌝ }
+    ensures { λ r. ⌜ (r .state ≡ state) × (take (r .next) (now (out .exit)) ≡ refusalLine 9) ⌝ }
+{
+    let next = answer_one(out, b'E', 9);
+    Step { state, next }
+}
+
+pub fn answer_call(
+    state: State,
+    nodes: &mut [u32],
+    dots: &mut [u32],
+    rects: &mut [i32],
+    marks: &mut [u8],
+    row: &mut [u32],
+    call: Call,
+    out: &mut [u8],
+) -> Step
+    requires { ⌜ 24 + 11 * length (now row) ≤ length (now out) ⌝ }
+    ensures { λ r. ⌜ r .next ≤ length (now (out .exit)) ⌝ }
+    ensures { λ r. ⌜ Called (world state (now (nodes .entry)) (now (dots .entry)) (now (rects .entry)) (now (marks .entry))) (now (row .entry)) call (world (r .state) (now (nodes .exit)) (now (dots .exit)) (now (rects .exit)) (now (marks .exit))) (now (row .exit)) (take (r .next) (now (out .exit))) ⌝ }
+{
+    match call {
+        Call::Settings(_) => answer_nine(state, out),
+        Call::Insert(dot) => answer_insert(state, nodes, dots, rects, marks, dot, out),
+        Call::Remove(dot) => answer_remove(state, nodes, dots, rects, marks, dot, out),
+        Call::Cleanup => answer_cleanup(state, nodes, dots, rects, marks, out),
+        Call::Query(rect) => answer_listing(state, nodes, dots, rects, marks, rect, row, out),
+    }
+}
+
+// A line, without its LF, is carried out and answered.
+pub fn answer_line(
+    state: State,
+    nodes: &mut [u32],
+    dots: &mut [u32],
+    rects: &mut [i32],
+    marks: &mut [u8],
+    row: &mut [u32],
+    line: &[u8],
+    out: &mut [u8],
+) -> Step
+    requires { ⌜ 24 + 11 * length (now row) ≤ length (now out) ⌝ }
+    ensures { λ r. ⌜ r .next ≤ length (now (out .exit)) ⌝ }
+    ensures { λ r. ⌜ Answered (world state (now (nodes .entry)) (now (dots .entry)) (now (rects .entry)) (now (marks .entry))) (now (row .entry)) (now (line .entry)) (world (r .state) (now (nodes .exit)) (now (dots .exit)) (now (rects .exit)) (now (marks .exit))) (now (row .exit)) (take (r .next) (now (out .exit))) ⌝ }
+{
+    match read_line(line) {
+        Line::Call(call) => answer_call(state, nodes, dots, rects, marks, row, call, out),
+        Line::Unreadable => answer_nine(state, out),
+    }
+}

@@ -1,0 +1,34 @@
+#!/usr/bin/env python3
+# Writes the recorded inputs and the outputs that document 01 asks for, each pair a file NAME.in and NAME.out.
+import os, sys
+folder = sys.argv[1]
+S = b'S,0,0,16,16,2,2,1\n'
+H = b'DOTS,1\n'
+def put(name, given, answers):
+    open(os.path.join(folder, name + '.in'), 'wb').write(given)
+    open(os.path.join(folder, name + '.out'), 'wb').write(H + answers)
+put('empty', b'', b'E,9\n')
+put('lone_lf', b'\n', b'E,9\n')
+put('two_lf', b'\n' + S, b'E,9\n')
+put('no_final_lf', S + b'C', b'S,2\nC,0\n')
+put('settings_no_lf', S[:-1], b'S,2\n')
+put('final_lf', S + b'C\n', b'S,2\nC,0\n')
+put('empty_line', S + b'\nC\n', b'S,2\nE,9\nC,0\n')
+put('first_not_s', b'C\n' + S, b'E,9\n')
+put('bad_settings', b'S,0,0,16,16,256,2,1\nC\n', b'E,2\n')
+put('leaf_limit_0', b'S,0,0,16,16,2,0,1\n', b'E,2\n')
+put('settings_beyond', b'S,0,0,16,16,2,2,4294967296\n', b'E,9\n')
+put('settings_far', b'S,2147483648,0,16,16,2,2,1\n', b'E,9\n')
+put('settings_wide', b'S,0,0,2147483647,16,2,2,1\n', b'E,2\n')
+put('later_s', S + S + b'C\n', b'S,2\nE,9\nC,0\n')
+put('refusals', S + b'I,1,2,1,1,2\nI,1,1073741824,1,1073741825,2\nI,1,-1,-1,0,0\nI,1,2147483648,0,0,0\n', b'S,2\nE,4\nE,4\nE,5\nE,9\n')
+put('numbers', S + b''.join(b'D,%s,0,0,0,0\n' % n for n in (b'4294967295', b'4294967296', b'01', b'-0', b'+1', b' 1', b'1 ', b'', b'-1', b'0', b'99999999999999999999')),
+    b'S,2\nD,4294967295,0\n' + b'E,9\n' * 8 + b'D,0,0\nE,9\n')
+put('integers', S + b''.join(b'D,7,%s,0,0,0\n' % n for n in (b'-2147483648', b'-2147483649', b'2147483647', b'2147483648', b'-01', b'--1', b'-', b'00', b'-1')),
+    b'S,2\nD,7,0\nE,9\nD,7,0\n' + b'E,9\n' * 5 + b'D,7,0\n')
+put('damaged', S + b'C\r\nC,\nc\nCC\nC,0\nQ,0,0,8\nQ,0,0,8,8,8\nQ,0,0,8,8,\n,\nI,1,0,0,0,0\0\n\0\nX\n', b'S,2\n' + b'E,9\n' * 12)
+put('long_lines', S + b'C' * 80 + b'\n' + b'C' * 81 + b'\n' + b'C' * 100000 + b'\nC\n' + b'C' * 4096, b'S,2\nE,9\nE,9\nE,9\nC,0\nE,9\n')
+longest = b'D,4294967295,-2147483648,-2147483648,-2147483648,-2147483648'
+put('longest', S + longest + b'\n' + longest + b',' + b'0' * (79 - len(longest)) + b'\n', b'S,2\nD,4294967295,0\nE,9\n')
+put('full', b'S,0,0,16,16,0,4294967295,1\n' + b'I,9,1,1,1,1\n' * 1025 + b'Q,0,0,16,16\n', b'S,0\n' + b'I,9,0\n' * 1024 + b'E,6\n' + b'Q,1,1024' + b',9' * 1024 + b'\n')
+put('groups', b'S,0,0,1073741823,1073741823,255,1,1\n' + b''.join(b'I,%d,%d,%d,%d,%d\n' % (k, x, x, x, x) for k, x in ((1, 0), (2, 0))), b'S,29\nI,1,0\nI,2,29\n')
