@@ -32,3 +32,8 @@ longest = b'D,4294967295,-2147483648,-2147483648,-2147483648,-2147483648'
 put('longest', S + longest + b'\n' + longest + b',' + b'0' * (79 - len(longest)) + b'\n', b'S,2\nD,4294967295,0\nE,9\n')
 put('full', b'S,0,0,16,16,0,4294967295,1\n' + b'I,9,1,1,1,1\n' * 1025 + b'Q,0,0,16,16\n', b'S,0\n' + b'I,9,0\n' * 1024 + b'E,6\n' + b'Q,1,1024' + b',9' * 1024 + b'\n')
 put('groups', b'S,0,0,1073741823,1073741823,255,1,1\n' + b''.join(b'I,%d,%d,%d,%d,%d\n' % (k, x, x, x, x) for k, x in ((1, 0), (2, 0))), b'S,29\nI,1,0\nI,2,29\n')
+# the longest lines that are calls in all but their length: an S of 80 bytes is read (and its settings are bad), one of 81 is not
+corner = b'S' + b',-2147483648' * 4 + b',4294967295'
+for size, tail, answers in ((80, b',999999999,999999999', b'E,2\n'), (81, b',4294967295,999999999', b'E,9\n'), (82, b',4294967295,4294967295', b'E,9\n')):
+    assert len(corner + tail) == size
+    put('bytes_%d' % size, corner + tail + b'\n', answers)
