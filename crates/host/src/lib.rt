@@ -5,4 +5,4 @@
 // A state row or an answer row of another length is refusal 1. A refused call leaves both as they were.
 pub mod asking;
 pub mod changing;
-mod rows;
+pub mod rows;

@@ -1,0 +1,40 @@
+// The query without the check, for the benchmark: the caller answers for the tree.
+ghost use mathlib.Core.Path.{_≡_};
+ghost use lib.ListN.{length};
+ghost use Rattle.tree.specs.Operations.{IsTree};
+ghost use Rattle.host.specs.Rows.{stateIn, rectOf};
+ghost use Rattle.query_export.specs.Answers.{Lists};
+use geometry::aabb::AABB;
+use host::rows::answer_out;
+use host::rows::state_in;
+use host::rows::too_many;
+use tree_query::query::Listing;
+use tree_query::query::query_row;
+
+// The rows and the result as host's query has them.
+#[no_mangle]
+pub extern "C" fn krakvinge_query_unchecked(
+    state: &[u32],
+    nodes: &[u32],
+    dots: &[u32],
+    rects: &[i32],
+    x1: i32,
+    y1: i32,
+    x2: i32,
+    y2: i32,
+    ids: &mut [u32],
+    answer: &mut [u32],
+) -> u64
+    requires { ⌜ (length (now state) ≡ 10) × (length (now answer) ≡ 2) × IsTree (stateIn (now state)) (now nodes) (now dots) (now rects) ⌝ }
+    ensures { λ r. ⌜ Lists (rectOf x1 y1 x2 y2) (now (state .entry)) (now (nodes .entry)) (now (dots .entry)) (now (rects .entry)) (now (ids .entry)) (now (answer .entry)) (now (ids .exit)) (now (answer .exit)) r ⌝ }
+{
+    let before = state_in(state);
+    let rect = AABB { x1, y1, x2, y2 };
+    match query_row(before, rect, nodes, dots, rects, ids) {
+        Listing::TooMany(many) => too_many(many),
+        Listing::Listed(hits, opened) => {
+            answer_out(answer, hits, opened);
+            0
+        }
+    }
+}
