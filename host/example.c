@@ -38,6 +38,20 @@ static void query(size_t room) {
     printf("], %" PRIu32 " nodes opened\n", answer[1]);
 }
 
+static uint64_t batch(void) {
+    const uint32_t minus_1 = UINT32_MAX;
+    const uint32_t records[] = {
+        KRAKVINGE_INSERT, 5, 3, 3, 4, 4, KRAKVINGE_INSERT, 6, minus_1, minus_1, 0, 0, KRAKVINGE_REMOVE, 5, 3, 3, 4, 4, KRAKVINGE_CLEANUP, 0, 0, 0, 0, 0,
+    };
+    uint32_t answers[WORDS(records) / KRAKVINGE_RECORD_WORDS];
+    uint64_t result = krakvinge_batch(TREE, records, WORDS(records), answers, WORDS(answers));
+    for (size_t i = 0; result == 0 && i < WORDS(answers); i++) {
+        uint32_t refusal = KRAKVINGE_RECORD_REFUSAL(answers[i]);
+        printf("record %zu: %s%" PRIu32 "\n", i, refusal ? "refused " : "", refusal ? refusal : answers[i]);
+    }
+    return result;
+}
+
 int main(void) {
     int32_t row[24] = {0};
     uint32_t ids[PLACES] = {0};
@@ -59,5 +73,6 @@ int main(void) {
     refused |= krakvinge_references(TREE, ANSWER);
     printf("references: %" PRIu32 "\n", answer[0]);
     printf("live: %" PRIu32 "\n", state[9]);
+    refused |= batch();
     return refused == 0 ? 0 : 1;
 }

@@ -3,7 +3,7 @@
 #[allow(dead_code)]
 mod krakvinge;
 
-use krakvinge::{Refused, Settings, Tree};
+use krakvinge::{Record, Refused, Settings, Tree};
 
 fn run() -> Result<(), Refused> {
     let settings = Settings { left: 0, top: 0, width: 16, height: 16, depth_limit: 2, leaf_limit: 2, smallest_cell: 1 };
@@ -28,6 +28,15 @@ fn run() -> Result<(), Refused> {
     println!("cleanup: {}", film.cleanup()?);
     println!("references: {}", film.references()?);
     println!("live: {}", film.live());
+    let records = [Record::insert(5, [3, 3, 4, 4]), Record::insert(6, [-1, -1, 0, 0]), Record::remove(5, [3, 3, 4, 4]), Record::cleanup()];
+    let mut answers = [0; 4];
+    film.batch(&records, &mut answers)?;
+    for (i, word) in answers.into_iter().enumerate() {
+        match Record::refusal(word) {
+            Some(number) => println!("record {i}: refused {number}"),
+            None => println!("record {i}: {word}"),
+        }
+    }
     Ok(())
 }
 

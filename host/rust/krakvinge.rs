@@ -28,6 +28,40 @@ pub struct Listed {
     pub opened: u32,
 }
 
+/// A record of a batch, as its six 32-bit words. A cleanup's id and rectangle mean nothing.
+#[repr(C)]
+#[derive(Clone, Copy, PartialEq, Eq, Debug)]
+pub struct Record {
+    pub kind: u32,
+    pub id: u32,
+    pub rect: Rect,
+}
+
+impl Record {
+    pub fn insert(id: u32, rect: Rect) -> Record {
+        Record { kind: 0, id, rect }
+    }
+
+    pub fn remove(id: u32, rect: Rect) -> Record {
+        Record { kind: 1, id, rect }
+    }
+
+    pub fn cleanup() -> Record {
+        Record { kind: 2, id: 0, rect: [0; 4] }
+    }
+
+    /// The words of a row of records.
+    pub fn words(records: &[Record]) -> &[u32] {
+        // a record is six 32-bit words without padding, aligned as they are
+        unsafe { std::slice::from_raw_parts(records.as_ptr().cast(), 6 * records.len()) }
+    }
+
+    /// The refusal in an answer word; else the word is the splits, or 1 or 0.
+    pub fn refusal(word: u32) -> Option<u32> {
+        (word > 4294967040).then(|| word - 4294967040)
+    }
+}
+
 /// The calls as the library exports them.
 #[rustfmt::skip]
 pub mod raw {
@@ -36,6 +70,7 @@ pub mod raw {
         pub fn krakvinge_insert(s: *mut u32, sn: usize, n: *mut u32, nn: usize, d: *mut u32, dn: usize, r: *mut i32, rn: usize, m: *mut u8, mn: usize, id: u32, x1: i32, y1: i32, x2: i32, y2: i32, a: *mut u32, an: usize) -> u64;
         pub fn krakvinge_remove(s: *mut u32, sn: usize, n: *mut u32, nn: usize, d: *mut u32, dn: usize, r: *mut i32, rn: usize, m: *mut u8, mn: usize, id: u32, x1: i32, y1: i32, x2: i32, y2: i32, a: *mut u32, an: usize) -> u64;
         pub fn krakvinge_cleanup(s: *mut u32, sn: usize, n: *mut u32, nn: usize, d: *const u32, dn: usize, r: *const i32, rn: usize, m: *mut u8, mn: usize, a: *mut u32, an: usize) -> u64;
+        pub fn krakvinge_batch(s: *mut u32, sn: usize, n: *mut u32, nn: usize, d: *mut u32, dn: usize, r: *mut i32, rn: usize, m: *mut u8, mn: usize, w: *const u32, wn: usize, a: *mut u32, an: usize) -> u64;
         pub fn krakvinge_query(s: *const u32, sn: usize, n: *const u32, nn: usize, d: *const u32, dn: usize, r: *const i32, rn: usize, m: *mut u8, mn: usize, x1: i32, y1: i32, x2: i32, y2: i32, i: *mut u32, il: usize, a: *mut u32, an: usize) -> u64;
         pub fn krakvinge_all(s: *const u32, sn: usize, n: *const u32, nn: usize, d: *const u32, dn: usize, r: *const i32, rn: usize, m: *mut u8, mn: usize, i: *mut u32, il: usize, a: *mut u32, an: usize) -> u64;
         pub fn krakvinge_leaves(s: *const u32, sn: usize, n: *const u32, nn: usize, d: *const u32, dn: usize, r: *const i32, rn: usize, m: *mut u8, mn: usize, w: *mut i32, wn: usize, a: *mut u32, an: usize) -> u64;
@@ -90,6 +125,17 @@ impl Rows {
     pub fn cleanup(&mut self, a: &mut [u32]) -> u64 {
         let Rows { state: s, nodes: n, dots: d, rects: r, marks: m } = self;
         unsafe { raw::krakvinge_cleanup(s.as_mut_ptr(), s.len(), n.as_mut_ptr(), n.len(), d.as_ptr(), d.len(), r.as_ptr(), r.len(), m.as_mut_ptr(), m.len(), a.as_mut_ptr(), a.len()) }
+    }
+
+    /// The records as words, six each.
+    pub fn batch(&mut self, w: &[u32], a: &mut [u32]) -> u64 {
+        let Rows { state: s, nodes: n, dots: d, rects: r, marks: m } = self;
+        unsafe {
+            raw::krakvinge_batch(
+                s.as_mut_ptr(), s.len(), n.as_mut_ptr(), n.len(), d.as_mut_ptr(), d.len(), r.as_mut_ptr(), r.len(), m.as_mut_ptr(), m.len(),
+                w.as_ptr(), w.len(), a.as_mut_ptr(), a.len(),
+            )
+        }
     }
 
     pub fn query(&mut self, [x1, y1, x2, y2]: Rect, ids: &mut [u32], a: &mut [u32]) -> u64 {
@@ -169,6 +215,13 @@ impl Tree {
     pub fn cleanup(&mut self) -> Result<bool, Refused> {
         let result = self.rows.cleanup(&mut self.answer);
         Ok(self.accepted(result)?[0] == 1)
+    }
+
+    /// Carries out the records in order; a row as long has a word for each.
+    pub fn batch(&mut self, records: &[Record], answers: &mut [u32]) -> Result<(), Refused> {
+        let result = self.rows.batch(Record::words(records), answers);
+        self.accepted(result)?;
+        Ok(())
     }
 
     pub fn query(&mut self, rect: Rect, ids: &mut [u32]) -> Result<Listed, Refused> {

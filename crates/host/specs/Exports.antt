@@ -2,8 +2,8 @@
 --     Lent         the rows: state, nodes, dots, rectangles, marks, answer
 --     resultOf     what is returned: 0 or the refusal, 8 with 256 times the number wanted added
 --     stateRow, answerRow      the state row and the answer row after a reply; a refused call leaves them as they were
---     Exported     THE PATTERN: refusal 1 for a state row or an answer row of another length, else the call
---     Inserts, Removes, CleansUp, Queries, ListsAll, ListsLeaves, Counts, Makes, Checks
+--     Exported     THE PATTERN: refusal 1 where the host's own rows don't fit, else the call
+--     Inserts, Removes, CleansUp, Queries, ListsAll, ListsLeaves, Counts, Batches, Makes, Checks
 use mathlib.Core.Path.{_≡_}
 use mathlib.Core.List.{List, [], _∷_}
 use mathlib.Core.Bool.{Bool, true, false}
@@ -13,11 +13,12 @@ use lib.ListN.{length}
 use Rattle.geometry.specs.declared.aabb.AABB.{AABB}
 use Rattle.model.specs.declared.State.{State}
 use Rattle.model.specs.Layout.{World, world}
-use Rattle.model.specs.Calls.{Reply, refused, tooMany, answered, Listed, yesNo, Insert, Remove, Cleanup, Query, All, Leaves, References, Make}
+use Rattle.model.specs.Calls.{Reply, refused, tooMany, answered, Listed, yesNo, Insert, Remove, Cleanup, Query, All, Leaves, References, Make, Batch}
 use Rattle.memory.specs.declared.make.Making.{Making}
 use Rattle.memory.specs.Fresh.{stateAfter, replyOf}
 use Rattle.tree_check.specs.Checks.{Checked}
 use Rattle.host.specs.Rows.{settingsIn, stateIn, withState, rowsFit}
+use Rattle.host.specs.Records.{recordsIn, batchFits}
 
 pub record Lent : Type 0 where
   pub state : List ℕ
@@ -59,9 +60,9 @@ abbrev pub hitsOpened : Listed → List ℕ
 hitsOpened l = l .hits ∷ l .opened ∷ []
 
 -- says: the call, from the world and its row of answers before to those after, with its reply
-pub record Exported {B A : Type 0} (words : A → List ℕ) (says : World → List B → World → List B → Reply A → Type 0) (l : Lent) (row : List B) (l′ : Lent) (row′ : List B) (result : ℕ) : Type 0 where
-  pub otherLength : rowsFit (l .state) (l .answer) ≡ false → (l′ ≡ l) × (row′ ≡ row) × (result ≡ 1)
-  pub carriedOut : rowsFit (l .state) (l .answer) ≡ true
+pub record Exported {B A : Type 0} (fits : Bool) (words : A → List ℕ) (says : World → List B → World → List B → Reply A → Type 0) (l : Lent) (row : List B) (l′ : Lent) (row′ : List B) (result : ℕ) : Type 0 where
+  pub otherLength : fits ≡ false → (l′ ≡ l) × (row′ ≡ row) × (result ≡ 1)
+  pub carriedOut : fits ≡ true
       → (s : State) × (reply : Reply A) × says (worldOf (stateIn (l .state)) l) row (worldOf s l′) row′ reply
       × (l′ .state ≡ stateRow s (l .state) reply) × (l′ .answer ≡ answerRow words (l .answer) reply) × (result ≡ resultOf reply)
 
@@ -69,29 +70,35 @@ pub record Exported {B A : Type 0} (words : A → List ℕ) (says : World → Li
 
 abbrev pub Inserts : ℕ → AABB → Lent → Lent → ℕ → Type 0
 Inserts id r l l′ result =
-    Exported number (λ (w : World) (row : List ℕ) (w′ : World) (row′ : List ℕ) (reply : Reply ℕ). Insert w (record { id = id; rect = r }) w′ reply) l [] l′ [] result
+    Exported (rowsFit (l .state) (l .answer)) number (λ (w : World) (row : List ℕ) (w′ : World) (row′ : List ℕ) (reply : Reply ℕ). Insert w (record { id = id; rect = r }) w′ reply) l [] l′ [] result
 
 abbrev pub Removes : ℕ → AABB → Lent → Lent → ℕ → Type 0
 Removes id r l l′ result =
-    Exported yesOrNo (λ (w : World) (row : List ℕ) (w′ : World) (row′ : List ℕ) (reply : Reply Bool). Remove w id r w′ reply) l [] l′ [] result
+    Exported (rowsFit (l .state) (l .answer)) yesOrNo (λ (w : World) (row : List ℕ) (w′ : World) (row′ : List ℕ) (reply : Reply Bool). Remove w id r w′ reply) l [] l′ [] result
 
 abbrev pub CleansUp : Lent → Lent → ℕ → Type 0
 CleansUp l l′ result =
-    Exported yesOrNo (λ (w : World) (row : List ℕ) (w′ : World) (row′ : List ℕ) (reply : Reply Bool). Cleanup w w′ reply) l [] l′ [] result
+    Exported (rowsFit (l .state) (l .answer)) yesOrNo (λ (w : World) (row : List ℕ) (w′ : World) (row′ : List ℕ) (reply : Reply Bool). Cleanup w w′ reply) l [] l′ [] result
 
 abbrev pub Counts : Lent → Lent → ℕ → Type 0
 Counts l l′ result =
-    Exported number (λ (w : World) (row : List ℕ) (w′ : World) (row′ : List ℕ) (reply : Reply ℕ). References w w′ reply) l [] l′ [] result
+    Exported (rowsFit (l .state) (l .answer)) number (λ (w : World) (row : List ℕ) (w′ : World) (row′ : List ℕ) (reply : Reply ℕ). References w w′ reply) l [] l′ [] result
 
 abbrev pub Queries : AABB → Lent → List ℕ → Lent → List ℕ → ℕ → Type 0
 Queries r l row l′ row′ result =
-    Exported hitsOpened (λ (w : World) (ids : List ℕ) (w′ : World) (ids′ : List ℕ) (reply : Reply Listed). Query w r ids w′ ids′ reply) l row l′ row′ result
+    Exported (rowsFit (l .state) (l .answer)) hitsOpened (λ (w : World) (ids : List ℕ) (w′ : World) (ids′ : List ℕ) (reply : Reply Listed). Query w r ids w′ ids′ reply) l row l′ row′ result
 
 abbrev pub ListsAll : Lent → List ℕ → Lent → List ℕ → ℕ → Type 0
-ListsAll l row l′ row′ result = Exported hitsOpened All l row l′ row′ result
+ListsAll l row l′ row′ result = Exported (rowsFit (l .state) (l .answer)) hitsOpened All l row l′ row′ result
 
 abbrev pub ListsLeaves : Lent → List ℤ → Lent → List ℤ → ℕ → Type 0
-ListsLeaves l row l′ row′ result = Exported number Leaves l row l′ row′ result
+ListsLeaves l row l′ row′ result = Exported (rowsFit (l .state) (l .answer)) number Leaves l row l′ row′ result
+
+-- the row is the answers'; the batch has no answer row beside it
+abbrev pub Batches : List ℕ → Lent → List ℕ → Lent → List ℕ → ℕ → Type 0
+Batches records l answers l′ answers′ result =
+    Exported (batchFits (l .state) records) (λ (done : Unit {0}). [])
+    (λ (w : World) (row : List ℕ) (w′ : World) (row′ : List ℕ) (reply : Reply (Unit {0})). Batch w (recordsIn records) row w′ row′ reply) l answers l′ answers′ result
 
 -- ---- make, which has no answer row, and the check alone
 

@@ -1,29 +1,37 @@
 -- Laws of the exported calls.
 --     signed-near, signed-far, far-wide, far-narrow    the number that a word stands for, and that it fits
 --     ten, two     rows that fit; answer-words: an answer row that is written; keeps-state, holds-state: the state that a row holds
+--     batch-ten, records-length, begun-records, stepped-record, batch-refused, batch-answered     a batch's rows, and its reply
 --     exported-other, exported-row     THE PATTERN: rows of another length, and a call carried out
 --     check-other, check-row, make-other, make-row     the same for the check and make
 use mathlib.Core.Path.{_≡_, refl, sym, _∙_, subst}
-use mathlib.Core.List.{List, [], _∷_}
+use mathlib.Core.List.{List, [], _∷_, _++_}
 use mathlib.Core.Bool.{Bool, true, false, not, _&&_}
-use Prim.Native.Nat.{ℕ, _≤_, _<_}
+use Prim.Native.Nat.{ℕ, zero, suc, _*_, _/_, _%_, _≤_, _<_}
 use native.Mathlib.Omega.{arith}
-use lib.Dec.{eqb}
+use lib.Dec.{eqb, ltb}
 use lib.IntN.{ℤ, pos, _-ℤ_}
-use lib.ListN.{length, set}
-use lib.Seq.{set-getD}
+use lib.ListN.{length, getD, set}
+use lib.Seq.{set-getD, getD-at}
 use mir.Syntax.{w32, w64}
 use mir.Val.{SFits}
-use borrow.Author.Tests.{lt-ltb, le-ltb, eqb-true}
+use borrow.Author.Tests.{lt-ltb, le-ltb, eqb-true, eq-eqb, ne-eqb, ltb-true, ltb-false, not-true, not-false}
+use Rattle.arithmetic.specs.Tests.{byBool}
 use Rattle.arithmetic.specs.Linear.{ints, dif, nat-eq, fits32, fits64}
 use Rattle.geometry.specs.declared.settings.Settings.{Settings}
+use Rattle.model.specs.declared.Record.{Record}
 use Rattle.model.specs.declared.State.{State}
+use Rattle.model.specs.Lists.{joinBelow, length-joinBelow}
 use Rattle.model.specs.Layout.{World, world}
-use Rattle.model.specs.Calls.{Reply, Make}
+use Rattle.model.specs.Calls.{Reply, refused, answered, Make}
 use Rattle.memory.specs.declared.make.Making.{Making}
 use Rattle.memory.specs.Fresh.{stateAfter, replyOf}
 use Rattle.tree_check.specs.Checks.{Checked}
 use Rattle.host.specs.Rows.{signed, settingsIn, stateIn, withState, rowsFit}
+use Rattle.batch_step.specs.declared.Batched.{Batched}
+use Rattle.batch_step.specs.Steps.{Begun, Stepped}
+use Rattle.batch.specs.Answers.{noRecord, batchReply}
+use Rattle.host.specs.Records.{recordIn, recordsIn, batchFits}
 use Rattle.host.specs.Exports.{Lent, worldOf, resultOf, stateRow, answerRow, Exported, madeRow, Makes, Checks}
 
 pub signed-near : (w : ℕ) → w < 2147483648 → signed w ≡ pos w
@@ -51,26 +59,25 @@ no-both : (b : Bool) → b ≡ false → b ≡ true → ⊥
 no-both b f t = let n : _≡_ {A = ℕ} 0 1 = cc in omega arith
 
 -- the code's test
+module _ {fits b : Bool} (test : b ≡ fits) where
+  unfit : not b ≡ true → fits ≡ false
+  unfit n = sym test ∙ not-true b n
+
+  fit : not b ≡ false → fits ≡ true
+  fit n = sym test ∙ not-false b n
+
 module _ (state answer : List ℕ) {b : Bool} (test : b ≡ rowsFit state answer) where
-  unfit : not b ≡ true → rowsFit state answer ≡ false
-  unfit n = sym test ∙ flip b n where
-    flip : (a : Bool) → not a ≡ true → a ≡ false
-    flip true e = sym e
-    flip false e = refl
-
-  fit : not b ≡ false → rowsFit state answer ≡ true
-  fit n = sym test ∙ flip b n where
-    flip : (a : Bool) → not a ≡ false → a ≡ true
-    flip true e = refl
-    flip false e = sym e
-
   pub ten : not b ≡ false → length state ≡ 10
   unfolding rowsFit
-  ten n = eqb-true _ _ (both (eqb (length state) 10) (eqb (length answer) 2) (fit n) .0)
+  ten n = eqb-true _ _ (both (eqb (length state) 10) (eqb (length answer) 2) (fit test n) .0)
 
   pub two : not b ≡ false → length answer ≡ 2
   unfolding rowsFit
-  two n = eqb-true _ _ (both (eqb (length state) 10) (eqb (length answer) 2) (fit n) .1)
+  two n = eqb-true _ _ (both (eqb (length state) 10) (eqb (length answer) 2) (fit test n) .1)
+
+pub batch-ten : (state records : List ℕ) {b : Bool} → b ≡ batchFits state records → not b ≡ false → length state ≡ 10
+unfolding batchFits
+batch-ten state records test n = eqb-true _ _ (both (eqb (length state) 10) (eqb (length records % 6) 0) (fit test n) .0)
 
 -- two stores fill an answer row
 pub answer-words : (row : List ℕ) (a b : ℕ) → length row ≡ 2 → set (set row 0 a) 1 b ≡ a ∷ b ∷ []
@@ -100,20 +107,62 @@ holds-state (a ∷ b ∷ c ∷ d ∷ e ∷ f ∷ g ∷ h ∷ []) s l same = absu
 holds-state (a ∷ b ∷ c ∷ d ∷ e ∷ f ∷ g ∷ h ∷ i ∷ []) s l same = absurd (omega arith)
 holds-state (a ∷ b ∷ c ∷ d ∷ e ∷ f ∷ g ∷ h ∷ i ∷ j ∷ k ∷ ks) s l same = absurd (omega arith)
 
+-- ---- records
+
+pub records-length : (row : List ℕ) → length (recordsIn row) ≡ length row / 6
+unfolding recordsIn
+records-length row = omega (arith, length-joinBelow (length row / 6) 1 (λ i. recordIn row i ∷ []) (λ i. refl))
+
+getD-first : {A : Type 0} (xs ys : List A) (i : ℕ) (d : A) → i < length xs → getD (xs ++ ys) i d ≡ getD xs i d
+getD-first [] ys i d l = absurd (omega arith)
+getD-first (x ∷ xs) ys zero d l = refl
+getD-first (x ∷ xs) ys (suc i) d l = getD-first xs ys i d (omega arith)
+
+getD-below : {A : Type 0} (n i : ℕ) (f : ℕ → A) (d : A) → i < n → getD (joinBelow n (λ k. f k ∷ [])) i d ≡ f i
+getD-below zero i f d l = absurd (omega arith)
+getD-below (suc n) i f d l =
+    let many : length (joinBelow n (λ k. f k ∷ [])) ≡ n = omega (arith, length-joinBelow n 1 (λ k. f k ∷ []) (λ k. refl)) in
+    byBool (ltb i n)
+    (λ e. getD-first (joinBelow n (λ k. f k ∷ [])) (f n ∷ []) i d (omega (arith, many, ltb-true i n e)) ∙ getD-below n i f d (ltb-true i n e))
+    (λ e. let last : i ≡ n = omega (arith, ltb-false i n e) in rw last (getD-at (joinBelow n (λ k. f k ∷ [])) (f n) [] d n many))
+
+records-at : (row : List ℕ) (i : ℕ) → i < length row / 6 → getD (recordsIn row) i noRecord ≡ recordIn row i
+unfolding recordsIn
+records-at row i l = getD-below (length row / 6) i (recordIn row) noRecord l
+
+pub begun-records : (row : List ℕ) {words : ℕ} {s : State} {nodes dots : List ℕ} {rects : List ℤ} {marks : List ℕ} {b : Batched} {marks′ : List ℕ}
+    → Begun (length row / 6) words s nodes dots rects marks b marks′ → Begun (length (recordsIn row)) words s nodes dots rects marks b marks′
+begun-records row {words} {s} {nodes} {dots} {rects} {marks} {b} {marks′} e =
+    subst (λ (n : ℕ). Begun n words s nodes dots rects marks b marks′) (sym (records-length row)) e
+
+pub stepped-record : (row : List ℕ) (i : ℕ) → i < length (recordsIn row) → {r : Record} {b : Batched} {answers nodes dots : List ℕ} {rects : List ℤ} {b′ : Batched} {answers′ nodes′ dots′ : List ℕ} {rects′ : List ℤ}
+    → r ≡ recordIn row i → Stepped r i b answers nodes dots rects b′ answers′ nodes′ dots′ rects′
+    → Stepped (getD (recordsIn row) i noRecord) i b answers nodes dots rects b′ answers′ nodes′ dots′ rects′
+stepped-record row i l {r} {b} {answers} {nodes} {dots} {rects} {b′} {answers′} {nodes′} {dots′} {rects′} e d =
+    subst (λ (t : Record). Stepped t i b answers nodes dots rects b′ answers′ nodes′ dots′ rects′) (e ∙ sym (records-at row i (omega (arith, l, records-length row)))) d
+
+pub batch-refused : (b : Batched) → (b .refusal ≡ 0 → ⊥) → batchReply b ≡ refused (b .refusal)
+unfolding batchReply
+batch-refused b ne = rw (ne-eqb (b .refusal) 0 ne) refl
+
+pub batch-answered : (b : Batched) → b .refusal ≡ 0 → batchReply b ≡ answered tt
+unfolding batchReply
+batch-answered b e = rw (eq-eqb (b .refusal) 0 e) refl
+
 -- ---- the pattern
 
-module _ {B A : Type 0} (words : A → List ℕ) (says : World → List B → World → List B → Reply A → Type 0) where
-  pub exported-other : (l : Lent) (row : List B) {b : Bool} → b ≡ rowsFit (l .state) (l .answer) → not b ≡ true → Exported words says l row l row 1
-  exported-other l row test n = record { otherLength = λ _. (refl, refl, refl); carriedOut = λ e. absurd (no-both _ (unfit (l .state) (l .answer) test n) e) }
+module _ {B A : Type 0} {fits : Bool} (words : A → List ℕ) (says : World → List B → World → List B → Reply A → Type 0) where
+  pub exported-other : (l : Lent) (row : List B) {b : Bool} → b ≡ fits → not b ≡ true → Exported fits words says l row l row 1
+  exported-other l row test n = record { otherLength = λ _. (refl, refl, refl); carriedOut = λ e. absurd (no-both _ (unfit test n) e) }
 
   pub exported-row : (l l′ : Lent) (row row′ : List B) (result : ℕ) (s s′ : State) (reply : Reply A) {b : Bool}
-      → b ≡ rowsFit (l .state) (l .answer) → not b ≡ false → s ≡ stateIn (l .state)
+      → b ≡ fits → not b ≡ false → s ≡ stateIn (l .state)
       → says (worldOf s l) row (worldOf s′ l′) row′ reply
       → l′ .state ≡ stateRow s′ (l .state) reply → l′ .answer ≡ answerRow words (l .answer) reply → result ≡ resultOf reply
-      → Exported words says l row l′ row′ result
+      → Exported fits words says l row l′ row′ result
   exported-row l l′ row row′ result s s′ reply test n e said state answer same =
       record {
-        otherLength = λ f. absurd (no-both _ f (fit (l .state) (l .answer) test n));
+        otherLength = λ f. absurd (no-both _ f (fit test n));
         carriedOut = λ _. (s′, reply, subst (λ (t : State). says (worldOf t l) row (worldOf s′ l′) row′ reply) e said, state, answer, same);
       }
 

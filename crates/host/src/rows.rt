@@ -9,7 +9,7 @@ use geometry::settings::Settings;
 use model::State;
 
 // The number that a word stands for.
-fn signed(word: u32) -> i32
+pub fn signed(word: u32) -> i32
     ensures { λ r. ⌜ r ≡ signed word ⌝ }
 {
     if word < 2147483648 {
