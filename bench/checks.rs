@@ -5,8 +5,10 @@ use crate::krakvinge::{Record, Rows, Settings};
 use crate::original;
 use crate::plain::Random;
 use crate::port;
-use crate::time::{Best, REPETITIONS};
+use crate::time::Best;
+use std::hint::black_box;
 
+const REPETITIONS: usize = 15;
 const PLACES: usize = 65536;
 const GROUPS: usize = 16384;
 
@@ -28,8 +30,11 @@ fn measure(settings: &Settings, dots: &[Record], groups: usize, places: usize) {
         let mut answers = vec![0; dots.len()];
         assert_eq!(rows.batch(Record::words(dots), &mut answers), 0);
         inserts::compare(&tree, &mut rows, &answers);
-        sum.time(|| pass(&rows));
-        assert_eq!(check.time(|| rows.check()), 0);
+        // each once before it is timed
+        black_box(pass(&rows));
+        sum.time(|| pass(black_box(&rows)));
+        assert_eq!(rows.check(), 0);
+        check.time(|| rows.check());
         used = original::groups(&tree);
     }
     println!(

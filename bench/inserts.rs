@@ -3,8 +3,9 @@ use crate::field::{DIAGONAL, ORDERS, UPRIGHT};
 use crate::krakvinge::{Record, Rows, Settings};
 use crate::original;
 use crate::port;
-use crate::time::{Best, Ratios, REPETITIONS};
+use crate::time::{Best, Ratios};
 
+const REPETITIONS: usize = 15;
 // Leaf limit, smallest cell.
 const SETTINGS: [(u32, u32); 5] = [(4, 1), (8, 1), (16, 1), (64, 1), (4, 40)];
 

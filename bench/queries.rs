@@ -5,9 +5,10 @@ use crate::original;
 use crate::plain::Random;
 use crate::port;
 use crate::quadtree::AABB;
-use crate::time::{Best, Ratios, REPETITIONS};
+use crate::time::{Best, Ratios};
 use std::hint::black_box;
 
+const REPETITIONS: usize = 7;
 const LEAF_LIMITS: [u32; 4] = [4, 8, 16, 64];
 const CELLS: [i32; 4] = [1, 10, 30, 100];
 const WINDOWS: usize = 100;

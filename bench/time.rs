@@ -3,8 +3,6 @@ use std::fmt;
 use std::hint::black_box;
 use std::time::Instant;
 
-pub const REPETITIONS: usize = 7;
-
 // The least time that something took.
 #[derive(Clone, Copy)]
 pub struct Best(f64);
