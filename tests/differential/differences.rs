@@ -72,7 +72,8 @@ fn large_smallest_cell() -> bool {
 fn far_edge() -> bool {
     let s = Settings { left: 1073741823, width: 1, ..ROOT };
     let taken = takes(&mut original(&s), 1, [1073741823, 0, 1073741823, 0]);
-    taken && refused_make(&s) == 2 && refused_make(&Settings { width: 0, ..s }) == 0
+    let wrapped = !takes(&mut original(&s), 1, [1073741824, 0, 1073741824, 0]);
+    taken && wrapped && refused_make(&s) == 2 && refused_make(&Settings { width: 0, ..s }) == 0
 }
 
 // The original's depth limit is a byte: 256 cannot be said there.
