@@ -68,6 +68,8 @@ static bool answer(const struct question *q, char *out, size_t size) {
     else if (strcmp(q->kind, "node") == 0 && q->count == 7)
         snprintf(out, size, "%d %d %d %d %u %d", geometry_cell(S(n), P, 0), geometry_cell(S(n), P, 1), geometry_cell(S(n), P, 2),
                  geometry_cell(S(n), P, 3), geometry_depth(S(n), P), geometry_may_split(S(n), P));
+    else if (strcmp(q->kind, "route") == 0 && q->count == 11)
+        snprintf(out, size, "%u", geometry_route(S(n), P, R(n + 7)));
     else if (strcmp(q->kind, "dot") == 0 && q->count == 11)
         snprintf(out, size, "%u %d %d %d %d %d", geometry_route(S(n), P, R(n + 7)), geometry_opens(S(n), P, R(n + 7), 0),
                  geometry_opens(S(n), P, R(n + 7), 1), geometry_opens(S(n), P, R(n + 7), 2), geometry_opens(S(n), P, R(n + 7), 3),

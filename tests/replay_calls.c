@@ -1,5 +1,6 @@
 /* Replays recorded calls against the host's static library: replay_calls FILE. A line is 'tree', settings, groups and places, for a fresh tree;
- * or a call, '=', its result and, where it was accepted, the two words of its answer and those that it listed. */
+ * or a call, '=', its result and, where it was accepted, the two words of its answer and those that it listed; or 'nodes', 'dots' or 'freegroups',
+ * '=', and the words of the memory or the free groups' numbers at this point. A recorded word '_' stands for any. */
 #include "../host/krakvinge.h"
 #include <inttypes.h>
 #include <stdbool.h>
@@ -22,6 +23,8 @@ static uint8_t marks[KRAKVINGE_MARK_BYTES(GROUPS, PLACES)];
 static uint32_t answer[KRAKVINGE_ANSWER_WORDS];
 static uint32_t ids[ROW];
 static int32_t numbers[ROW];
+/* An answer as the recorded one is written. */
+static char text[16 * ROW];
 
 #define TREE \
     state, KRAKVINGE_STATE_WORDS, nodes, KRAKVINGE_NODE_WORDS(groups), dots, KRAKVINGE_DOT_WORDS(places), rects, KRAKVINGE_RECT_WORDS(places), \
@@ -65,12 +68,41 @@ static uint64_t call(const char *kind, const long long *n, size_t room) {
     return krakvinge_references(TREE, ANSWER);
 }
 
-/* The library's answer, as the recorded one is written; NULL for a call of no known kind. */
+/* The free groups' numbers, the head first. */
+static size_t free_groups(uint32_t *list) {
+    size_t count = 0;
+    for (size_t node = state[7]; count < groups && node < KRAKVINGE_NODE_WORDS(groups) / 2; node = nodes[2 * node])
+        list[count++] = (uint32_t)((node - 1) / 5);
+    return count;
+}
+
+/* What the memory holds at this point; NULL for a question of no known kind. */
+static const char *memory(const char *kind) {
+    uint32_t list[GROUPS];
+    const uint32_t *words = list;
+    size_t count;
+    if (strcmp(kind, "nodes") == 0) {
+        words = nodes;
+        count = KRAKVINGE_NODE_WORDS(groups);
+    } else if (strcmp(kind, "dots") == 0) {
+        words = dots;
+        count = KRAKVINGE_DOT_WORDS(places);
+    } else if (strcmp(kind, "freegroups") == 0) {
+        count = free_groups(list);
+    } else {
+        return NULL;
+    }
+    text[0] = '\0';
+    for (size_t i = 0, at = 0; i < count; i++)
+        at += (size_t)sprintf(text + at, i == 0 ? "%" PRIu32 : " %" PRIu32, words[i]);
+    return text;
+}
+
+/* The library's answer; NULL for a question of no known kind. */
 static const char *replay(const char *kind, const long long *n, int count) {
-    static char text[16 * ROW];
     size_t room;
     if (!room_of(kind, n, count, &room))
-        return NULL;
+        return count == 0 ? memory(kind) : NULL;
     for (size_t i = 0; i < ROW; i++) {
         ids[i] = UNWRITTEN;
         numbers[i] = UNWRITTEN;
@@ -87,6 +119,16 @@ static const char *replay(const char *kind, const long long *n, int count) {
         if (ids[i] != UNWRITTEN || numbers[i] != UNWRITTEN)
             return "a word past the row's answers";
     return text;
+}
+
+static bool same(const char *ours, const char *theirs) {
+    for (; *theirs != '\0'; theirs++) {
+        if (*theirs == '_')
+            ours += strcspn(ours, " ");
+        else if (*ours++ != *theirs)
+            return false;
+    }
+    return *ours == '\0';
 }
 
 int main(int argc, char **argv) {
@@ -109,10 +151,10 @@ int main(int argc, char **argv) {
         bool tree = kind != NULL && theirs == NULL && strcmp(kind, "tree") == 0 && make(n, count);
         const char *ours = kind != NULL && theirs != NULL ? replay(kind, n, count) : NULL;
         if (!tree && ours == NULL) {
-            printf("replay: line %lu is no tree and no call with an answer\n", at);
+            printf("replay: line %lu is no tree and no question with an answer\n", at);
             return 1;
         }
-        if (ours != NULL && strcmp(ours, theirs + 3) != 0) {
+        if (ours != NULL && !same(ours, theirs + 3)) {
             printf("replay: DIFFERENCE at line %lu: recorded %s, the library answers %s\n", at, theirs + 3, ours);
             return 1;
         }

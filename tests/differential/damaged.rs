@@ -14,7 +14,8 @@ fn call(rows: &mut Rows, kind: usize, words: &mut [u32], ids: &mut [u32], number
         3 => rows.query([0, 0, 9, 9], ids, words),
         4 => rows.leaves(numbers, words),
         5 => rows.all(ids, words),
-        _ => rows.references(words),
+        6 => rows.references(words),
+        _ => rows.batch(&[0, 1, 1, 1, 2, 2, 1, 1, 1, 1, 2, 2], words),
     }
 }
 
@@ -59,7 +60,7 @@ fn round(random: &mut Random, counts: &mut [u64; 4]) -> Result<(), String> {
             tree.insert(*id, *rect, &mut [0; 2]);
         }
     }
-    for kind in 0..7 {
+    for kind in 0..8 {
         let mut rows = tree.clone();
         rows.marks.iter_mut().for_each(|m| *m = random.next() as u8);
         let (refusal, words) = damage(random, &mut rows);
@@ -73,6 +74,19 @@ fn round(random: &mut Random, counts: &mut [u64; 4]) -> Result<(), String> {
         let kept = answer.iter().chain(&ids).all(|w| *w == UNWRITTEN) && numbers.iter().all(|w| *w == 77);
         if result != refusal || rows != wanted || !kept {
             return Err(format!("call {kind} on {}: {result}, wanted {refusal}; rows kept: {}, answers kept: {kept}", list.head(), rows == wanted));
+        }
+    }
+    broken_records(&tree, counts)
+}
+
+// Rows of records that are not whole.
+fn broken_records(tree: &Rows, counts: &mut [u64; 4]) -> Result<(), String> {
+    for words in [1, 5, 7, 11, 13] {
+        let (mut rows, mut answers) = (tree.clone(), vec![UNWRITTEN; words / 6]);
+        let result = rows.batch(&vec![0; words], &mut answers);
+        counts[1] += 1;
+        if result != 1 || rows != *tree || answers.iter().any(|w| *w != UNWRITTEN) {
+            return Err(format!("a batch of {words} words: {result}, wanted 1"));
         }
     }
     Ok(())

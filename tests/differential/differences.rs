@@ -70,9 +70,13 @@ fn large_smallest_cell() -> bool {
 }
 
 fn far_edge() -> bool {
-    refused_make(&Settings { left: 1073741823, width: 1, ..ROOT }) == 2 && refused_make(&Settings { left: 1073741823, width: 0, ..ROOT }) == 0
+    let s = Settings { left: 1073741823, width: 1, ..ROOT };
+    let taken = takes(&mut original(&s), 1, [1073741823, 0, 1073741823, 0]);
+    let wrapped = !takes(&mut original(&s), 1, [1073741824, 0, 1073741824, 0]);
+    taken && wrapped && refused_make(&s) == 2 && refused_make(&Settings { width: 0, ..s }) == 0
 }
 
+// The original's depth limit is a byte: 256 cannot be said there.
 fn depth_limit() -> bool {
     refused_make(&Settings { depth_limit: 256, ..ROOT }) == 2 && refused_make(&Settings { depth_limit: 255, ..ROOT }) == 0
 }

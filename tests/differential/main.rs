@@ -3,7 +3,9 @@
 //     differential --faults           plants faults, and fails where one is not found
 //     differential --record           writes a fixed list with the original's answers
 //     differential --differences      where the two differ on purpose (docs/DIFFERENCES.md)
+//     differential --batches          batches against single calls
 //     differential --damaged          rows of wrong lengths, settings out of range and damaged trees, which every call turns down
+mod batches;
 mod calls;
 mod compare;
 mod counts;
@@ -113,6 +115,7 @@ fn main() {
     let passed = match args.first().map(String::as_str) {
         Some("--faults") => find_faults(),
         Some("--record") => record(),
+        Some("--batches") => batches::as_single_calls(),
         Some("--damaged") => damaged::turned_down(),
         Some("--differences") => differences::as_documented(),
         _ => compare_lists(number(0, CALLS), number(1, SEED)),

@@ -1,3 +1,4 @@
+# shellcheck shell=bash
 # Sourced at the top of the repository: what is compared with the original is compiled beside its files.
 
 # have COMMAND PACKAGE: a command, from its Debian package where it is missing.

@@ -2,12 +2,13 @@
 --     Trial, Line  a trial; a line of a trial that makes calls, with the answer that it must give
 --     passes       whether it comes out so, by the definitions of Settings, Rectangles, Cells and Calls
 --     table, all-pass      THE TABLE, and its one proof
---     further, further-pass        others, in the same form: dotcheck's lines, and words of the layout
+--     further, further-pass        others, in the same form: dotcheck's lines, traps, and words of the layout
+-- tests/trials reads the rows from this file and runs them on the compiled calls.
 use mathlib.Core.Path.{_≡_, refl}
 use mathlib.Core.List.{List, [], _∷_}
 use mathlib.Core.Bool.{Bool, true, false, not, _&&_}
 use Prim.Native.Nat.{ℕ}
-use lib.IntN.{pos, negsuc}
+use lib.IntN.{ℤ, pos, negsuc}
 use lib.Dec.{eqb}
 use Rattle.geometry.specs.declared.aabb.AABB.{AABB}
 use Rattle.geometry.specs.declared.settings.Settings.{Settings}
@@ -16,9 +17,9 @@ use Rattle.model.specs.Dots.{isHit, matches}
 use Rattle.geometry.specs.Rectangles.{flat, intersects, middle, within, inverted, near, farOut}
 use Rattle.geometry.specs.Settings.{rootOf, W, bitsWithin, bitLength, halvings, D, contains, rootRect}
 use Rattle.geometry.specs.Cells.{routeCell, mayDivide, rootCell, rootData, childCentre, quarterCell, childCell, childData, quadrant, route, bothTests, opens}
-use Rattle.model.specs.Shapes.{Shape, fresh, inserted, splitsMade, splitsNeeded, removed, foundBy, cleaned, cleans, listed, opensFor}
+use Rattle.model.specs.Shapes.{Shape, fresh, inserted, splitsMade, splitsNeeded, removed, foundBy, cleaned, cleans, listed, opensFor, leaves as leafRow, leafNumber, references as dotCount}
 use Rattle.model.specs.Layout.{none, branchMark, layout}
-use Rattle.model.specs.Calls.{Verdict, refuse, overflow, accept, recorded, refusedWord, yesNo, Listed, insertRule, removeRule, cleanupRule, queryRule, allRule}
+use Rattle.model.specs.Calls.{Verdict, refuse, overflow, accept, recorded, refusedWord, yesNo, Listed, insertRule, removeRule, cleanupRule, queryRule, allRule, leavesRule, referencesRule}
 use Rattle.arithmetic.specs.Ints.{maxZ, minZ}
 
 -- 'Root 0,0,16,16, limits as above' (depth limit 2, smallest cell 1) with a leaf limit
@@ -34,6 +35,17 @@ settings leafLimit =
       «smallest_cell» = 1;
     }
 
+-- those of dotcheck's sample
+abbrev sample : Settings
+sample = settings 2
+
+-- N, and the words of the row that a call is lent
+abbrev places : ℕ
+places = 8
+
+abbrev room : ℕ
+room = 24
+
 abbrev rect : ℕ → ℕ → ℕ → ℕ → AABB
 rect x1 y1 x2 y2 = record { x1 = pos x1; y1 = pos y1; x2 = pos x2; y2 = pos y2 }
 
@@ -44,6 +56,9 @@ pub data Line : Type 0 where
   cleanup : ℕ → Line
   all : List ℕ → Line
   query : AABB → List ℕ → ℕ → Line
+  references : ℕ → Line
+  -- the row, none of whose words is negative
+  leaves : List ℕ → Line
   -- the words of the nodes and of the dots at this point
   words : List ℕ → List ℕ → Line
   -- the free groups at this point, the head first
@@ -76,6 +91,18 @@ lists (refuse k) ids = false
 lists (overflow n) ids = false
 lists (accept x row a) ids = sameList row ids
 
+abbrev sameRow : List ℤ → List ℕ → Bool
+sameRow [] [] = true
+sameRow [] (n ∷ ns) = false
+sameRow (z ∷ zs) [] = false
+sameRow (pos m ∷ zs) (n ∷ ns) = eqb m n && sameRow zs ns
+sameRow (negsuc m ∷ zs) (n ∷ ns) = false
+
+abbrev listsLeaves : Verdict ℤ ℕ → List ℕ → Bool
+listsLeaves (refuse k) row = false
+listsLeaves (overflow n) row = false
+listsLeaves (accept x given n) row = sameRow given row
+
 abbrev opensJust : Verdict ℕ Listed → ℕ → Bool
 opensJust (refuse k) n = false
 opensJust (overflow m) n = false
@@ -86,17 +113,19 @@ passLines x [] = true
 passLines x (insert id r word ∷ ls) = let v = recorded (λ n. n) x (insertRule (record { id = id; rect = r }) x) in eqb (v .word) word && passLines (v .shape) ls
 passLines x (remove id r word ∷ ls) = let v = recorded yesNo x (removeRule id r x) in eqb (v .word) word && passLines (v .shape) ls
 passLines x (cleanup word ∷ ls) = let v = recorded yesNo x (cleanupRule x) in eqb (v .word) word && passLines (v .shape) ls
-passLines x (all ids ∷ ls) = lists (allRule 8 x) ids && passLines x ls
+passLines x (all ids ∷ ls) = lists (allRule room x) ids && passLines x ls
 passLines x (words nodes dots ∷ ls) = sameList (layout x .nodes) nodes && sameList (layout x .dots) dots && passLines x ls
 passLines x (freeGroups gs ∷ ls) = sameList (x .freeGroups) gs && passLines x ls
-passLines x (query q ids opened ∷ ls) = lists (queryRule q 8 x) ids && opensJust (queryRule q 8 x) opened && passLines x ls
+passLines x (query q ids opened ∷ ls) = lists (queryRule q room x) ids && opensJust (queryRule q room x) opened && passLines x ls
+passLines x (references n ∷ ls) = eqb (recorded (λ n. n) x (referencesRule x) .word) n && passLines x ls
+passLines x (leaves row ∷ ls) = listsLeaves (leavesRule room x) row && passLines x ls
 
 abbrev passes : Trial → Bool
-passes (contained r yes?) = sameBool (contains (rootOf (settings 2)) r) yes?
-passes (routed r child) = eqb (route (rootData (settings 2)) r) child
-passes (deepest d) = eqb (D (settings 2)) d
+passes (contained r yes?) = sameBool (contains (rootOf sample) r) yes?
+passes (routed r child) = eqb (route (rootData sample) r) child
+passes (deepest d) = eqb (D sample) d
 passes (meet a b yes?) = sameBool (intersects a b) yes?
-passes (calls leafLimit groups ls) = passLines (fresh (settings leafLimit) groups 8) ls
+passes (calls leafLimit groups ls) = passLines (fresh (settings leafLimit) groups places) ls
 
 abbrev passAll : List Trial → Bool
 passAll [] = true
@@ -105,9 +134,13 @@ passAll (t ∷ ts) = passes t && passAll ts
 abbrev three : List Line → List Line
 three ls = insert 1 (rect 1 1 2 2) 0 ∷ insert 2 (rect 9 1 10 2) 0 ∷ insert 3 (rect 7 7 9 9) 1 ∷ ls
 
+-- the six words of a leaf, and then those of the leaves after it
+abbrev leaf : ℕ → ℕ → ℕ → ℕ → ℕ → ℕ → List ℕ → List ℕ
+leaf x y halfWidth halfHeight depth count row = x ∷ y ∷ halfWidth ∷ halfHeight ∷ depth ∷ count ∷ row
+
 abbrev pub table : List Trial
 table =
-    -- '15,15,17,17 contained; 16,16,18,18 not; -1,-1,0,0 not (floor)'
+    -- '15,15,17,17 contained; 16,16,18,18 not; -1,-1,0,0 not (floor)'. The last is the trap 'halving the sum toward zero'.
     contained (rect 15 15 17 17) true
     ∷ contained (rect 16 16 18 18) false
     ∷ contained (record { x1 = negsuc 0; y1 = negsuc 0; x2 = pos 0; y2 = pos 0 }) false
@@ -122,6 +155,7 @@ table =
     ∷ contained (rect 16 1 17 2) true
     ∷ calls 2 2 (insert 1 (rect 16 1 17 2) 0 ∷ all [] ∷ [])
     -- 'Leaf limit 1: dots 1,1,2,2 then 3,3,3,3: 2 splits; with G = 1 refused 7. Remove both: cleanup yes, yes, no.'
+    -- The last is the trap 'collapsing several levels in one cleanup'.
     ∷ calls 1 2 (
     insert 1 (rect 1 1 2 2) 0 ∷ insert 2 (rect 3 3 3 3) 2 ∷ remove 1 (rect 1 1 2 2) 1 ∷ remove 2 (rect 3 3 3 3) 1
     ∷ cleanup 1 ∷ cleanup 1 ∷ cleanup 0 ∷ []
@@ -132,12 +166,12 @@ table =
     ∷ calls 2 8 (three (remove 1 (rect 9 1 10 2) 0 ∷ []))
     ∷ []
 
--- not starred: dotcheck's own lines, `S,2`, `E,5`, `Q,3,2,3,1`, `D,3,1`, `C,0`; the order of a dealt chain; the order of freed groups; and every word after
--- dotcheck's three inserts, with G = 1
+-- not starred: dotcheck's own lines, `S,2`, `E,5`, `Q,3,2,3,1`, `D,3,1`, `C,0`; the traps that `table` has not; the order of freed groups; and every word
+-- after dotcheck's three inserts, with G = 1
 abbrev pub further : List Trial
 further =
     deepest 2
-    -- both dots of the parent's chain 2, 1 go to child 1, where they stand as 1, 2
+    -- the trap 'a dealt chain kept in its old order': both dots of the parent's chain 2, 1 go to child 1, where they stand as 1, 2
     ∷ calls 2 8 (insert 1 (rect 1 1 2 2) 0 ∷ insert 2 (rect 3 3 3 3) 0 ∷ insert 3 (rect 9 9 10 10) 1 ∷ query (rect 0 0 16 16) (1 ∷ 2 ∷ 3 ∷ []) 6 ∷ [])
     -- groups 1 and 2 below children 1 and 4: child 4's is freed first, so that child 1's is the head; the root's own waits for the next call
     ∷ calls 1 4 (
@@ -147,6 +181,10 @@ further =
     )
     ∷ calls 2 8 (three (
     insert 4 (rect 16 16 18 18) (refusedWord 5) ∷ query (rect 0 0 8 8) (3 ∷ 1 ∷ []) 3 ∷ remove 3 (rect 7 7 9 9) 1 ∷ cleanup 0 ∷ []
+    ))
+    -- the trap 'taking leaf counts as the live number (child 0 is skipped)': three dots, of which the leaves count two
+    ∷ calls 2 8 (three (
+    references 3 ∷ leaves (leaf 4 4 4 4 1 1 (leaf 12 4 4 4 1 1 (leaf 4 12 4 4 1 0 (leaf 12 12 4 4 1 0 [])))) ∷ []
     ))
     ∷ calls 2 1 (three (
     words
@@ -163,5 +201,5 @@ unfolding flat intersects middle within inverted near farOut W bitsWithin bitLen
 all-pass = refl
 
 pub further-pass : passAll further ≡ true
-unfolding flat intersects middle within inverted near farOut W bitsWithin bitLength halvings D contains rootRect rootCell rootData childCentre quarterCell childCell childData quadrant routeCell bothTests opens mayDivide fresh inserted splitsMade splitsNeeded removed foundBy cleaned cleans listed opensFor insertRule removeRule cleanupRule queryRule allRule isHit matches indicator changed maxZ minZ layout none branchMark
+unfolding flat intersects middle within inverted near farOut W bitsWithin bitLength halvings D contains rootRect rootCell rootData childCentre quarterCell childCell childData quadrant routeCell bothTests opens mayDivide fresh inserted splitsMade splitsNeeded removed foundBy cleaned cleans listed opensFor insertRule removeRule cleanupRule queryRule allRule leavesRule referencesRule leafRow leafNumber dotCount isHit matches indicator changed maxZ minZ layout none branchMark
 further-pass = refl

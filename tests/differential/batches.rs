@@ -1,0 +1,138 @@
+// Batches against single calls: the same changes one at a time on one tree, and in batches of any size on another.
+use crate::calls::{Answer, Call, List, UNWRITTEN};
+use crate::faults::Fault;
+use crate::krakvinge::{Record, Rows};
+use crate::port::Port;
+use crate::random::{self, Random};
+
+const LISTS: u32 = 4_000;
+const SEED: u64 = 31;
+const REFUSED: u32 = 4294967040;
+
+// Faults to plant in a batch.
+#[derive(Clone, Copy, PartialEq, Debug)]
+enum Planted {
+    Nothing,
+    StopsAtRefusal,
+    RefusalOffByOne,
+    OtherKindAccepted,
+    NothingStored,
+    AnswersReversed,
+    MarkLeft,
+}
+
+const PLANTED: [Planted; 6] =
+    [Planted::StopsAtRefusal, Planted::RefusalOffByOne, Planted::OtherKindAccepted, Planted::NothingStored, Planted::AnswersReversed, Planted::MarkLeft];
+
+impl Planted {
+    fn spoil(self, answers: &mut [u32], before: &Rows, rows: &mut Rows) {
+        let refused = answers.iter().position(|word| *word > REFUSED);
+        match (self, refused) {
+            (Planted::StopsAtRefusal, Some(at)) => answers[at + 1..].fill(UNWRITTEN),
+            (Planted::RefusalOffByOne, Some(at)) => answers[at] += 1,
+            (Planted::OtherKindAccepted, Some(at)) if answers[at] == REFUSED + 9 => answers[at] = 0,
+            (Planted::NothingStored, _) => *rows = before.clone(),
+            (Planted::AnswersReversed, _) => answers.reverse(),
+            (Planted::MarkLeft, _) if !rows.marks.is_empty() => rows.marks[0] = 1,
+            _ => {}
+        }
+    }
+}
+
+// How the records ended: accepted with 0, with more, refused by number.
+#[derive(Default)]
+struct Counts {
+    batches: u64,
+    records: u64,
+    zero: u64,
+    more: u64,
+    refused: [u64; 10],
+}
+
+impl Counts {
+    fn tell(&mut self, words: &[u32]) {
+        self.batches += 1;
+        self.records += words.len() as u64;
+        for word in words {
+            match word.checked_sub(REFUSED) {
+                Some(number) => self.refused[number as usize] += 1,
+                None if *word == 0 => self.zero += 1,
+                None => self.more += 1,
+            }
+        }
+    }
+
+    fn print(&self) -> bool {
+        let of = |number: usize| self.refused[number];
+        println!(
+            "differential: {} records in {} batches as the single calls (floors 200000 and 15000): {} answered 0 (100000), {} splits or yes (20000), refused 4 {} (2000), 5 {} (5000), 6 {} (10000), 7 {} (2000), 9 {} (5000)",
+            self.records, self.batches, self.zero, self.more, of(4), of(5), of(6), of(7), of(9)
+        );
+        self.records >= 200_000 && self.batches >= 15_000 && self.zero >= 100_000 && self.more >= 20_000
+            && of(4) >= 2_000 && of(5) >= 5_000 && of(6) >= 10_000 && of(7) >= 2_000 && of(9) >= 5_000
+    }
+}
+
+fn record(call: &Call) -> Option<Record> {
+    match *call {
+        Call::Insert(id, rect) => Some(Record::insert(id, rect)),
+        Call::Remove(id, rect) => Some(Record::remove(id, rect)),
+        Call::Cleanup => Some(Record::cleanup()),
+        _ => None,
+    }
+}
+
+// A record's word, by the single call's answer.
+fn word(answer: &Answer) -> u32 {
+    if answer.result == 0 { answer.words[0] } else { REFUSED + answer.result as u32 }
+}
+
+// The list's changes on both trees; records of another kind are strewn in.
+fn differ(list: &List, random: &mut Random, planted: Planted, counts: &mut Counts) -> Option<String> {
+    let (mut single, mut rows) = (Port::new(list, Fault::None), Port::new(list, Fault::None).rows);
+    let (mut records, mut wanted, mut room) = (vec![], vec![], 0);
+    for (at, call) in list.calls.iter().enumerate() {
+        if let Some(record) = record(call) {
+            wanted.push(word(&single.answer(call)));
+            records.push(record);
+        }
+        if random.one_in(12) {
+            wanted.push(REFUSED + 9);
+            records.push(Record { kind: random.pick(&[3, 4, 9, u32::MAX]), ..Record::remove(at as u32, [1, 1, 2, 2]) });
+        }
+        if records.len() >= room || at + 1 == list.calls.len() {
+            let (before, mut answers) = (rows.clone(), vec![UNWRITTEN; records.len()]);
+            let result = rows.batch(Record::words(&records), &mut answers);
+            planted.spoil(&mut answers, &before, &mut rows);
+            if result != 0 || answers != wanted || rows != single.rows {
+                return Some(format!("{}: after call {at}: {result}, {records:?}: {answers:?}, wanted {wanted:?}; rows the same: {}", list.head(), rows == single.rows));
+            }
+            counts.tell(&wanted);
+            (records, wanted, room) = (vec![], vec![], random.below(30) as usize);
+        }
+    }
+    None
+}
+
+fn find(planted: Planted) -> bool {
+    let mut random = Random(SEED);
+    let found = (0..LISTS).any(|_| differ(&random::short(&mut random), &mut random, planted, &mut Counts::default()).is_some());
+    if !found {
+        println!("differential: {planted:?}, planted in a batch, was NOT FOUND");
+    }
+    found
+}
+
+pub fn as_single_calls() -> bool {
+    let (mut random, mut counts) = (Random(SEED), Counts::default());
+    for _ in 0..LISTS {
+        let list = random::short(&mut random);
+        if let Some(text) = differ(&list, &mut random, Planted::Nothing, &mut counts) {
+            println!("differential: DIFFERENCE between a batch and single calls: {text}");
+            return false;
+        }
+    }
+    let found = PLANTED.into_iter().filter(|planted| find(*planted)).count();
+    println!("differential: {found} of {} faults planted in a batch found", PLANTED.len());
+    counts.print() && found == PLANTED.len()
+}
