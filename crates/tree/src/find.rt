@@ -24,7 +24,7 @@ pub fn find_leaf(settings: Settings, nodes: &[u32], rect: AABB) -> Leaf
         let cell = data.cell;
         let child = cell.route(rect);
         node = words.first as usize + child as usize;
-        data = data.child(child);
+        data = data.toward(rect, child);
         words = node_at(nodes, node);
     }
     Leaf {

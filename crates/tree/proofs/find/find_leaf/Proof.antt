@@ -70,14 +70,14 @@ cast-node-2 c = omega (arith, facts c .child)
 add-node : tie.Need-add-node Inv-loop μ-loop
 add-node c = omega (arith, facts c .node)
 
-child-requires : tie.Need-child-requires Inv-loop μ-loop
-child-requires c κs = (c .before .before .before .before .before .loop .inv .1, omega (arith, facts c .depth))
+toward-requires : tie.Need-toward-requires Inv-loop μ-loop
+toward-requires c κs = (c .before .before .before .before .before .loop .inv .1, omega (arith, facts c .depth), c .before .route .ensures)
 
 node-at-requires-2 : tie.Need-node-at-requires-2 Inv-loop μ-loop
 node-at-requires-2 c κs = facts (c .before) .node
 
 loop-less : tie.Need-loop-less Inv-loop μ-loop
-loop-less c = facts (c .before .before) .less (c .before .child .result) (c .before .child .ensures)
+loop-less c = facts (c .before .before) .less (c .before .toward .result) (c .before .toward .ensures)
 
 loop-again : tie.Need-loop-again Inv-loop μ-loop
 unfolding childData
@@ -87,8 +87,8 @@ loop-again c =
     let loop = c .before .before .before .before .before .before .before .loop in
     let route = c .before .before .before .route in (
       c .node-at2 .ensures,
-      subst (λ (n : NodeData). InRange (n .cell)) (sym (c .before .child .ensures)) (child-range _ _ (loop .inv .1)),
-      way-on (args .nodes .now) (args .rect) (root .result) (loop .«data») (loop .node) (loop .words .first) (route .result) (loop .inv .2) (branches (c .before .before .before .before .before)) (ap (λ (w : Node). w .first) (loop .inv .0)) (route .ensures) (c .before .child .result) (c .before .child .ensures),
+      subst (λ (n : NodeData). InRange (n .cell)) (sym (c .before .toward .ensures)) (child-range _ _ (loop .inv .1)),
+      way-on (args .nodes .now) (args .rect) (root .result) (loop .«data») (loop .node) (loop .words .first) (route .result) (loop .inv .2) (branches (c .before .before .before .before .before)) (ap (λ (w : Node). w .first) (loop .inv .0)) (route .ensures) (c .before .toward .result) (c .before .toward .ensures),
     )
 
 returns : tie.Need-returns Inv-loop μ-loop
@@ -114,7 +114,7 @@ find-leaf-spec =
     cast-node
     cast-node-2
     add-node
-    child-requires
+    toward-requires
     node-at-requires-2
     loop-less
     loop-again
