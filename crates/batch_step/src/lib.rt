@@ -22,7 +22,7 @@ pub struct Batched {
     pub state: State,
 }
 
-// What a record leaves: its answer word, and the state after it.
+// What a record leaves: its answer word, and the state after it. The settings are those before, so that a batch copies them once.
 pub struct Recorded {
     pub word: u32,
     pub state: State,
@@ -61,7 +61,7 @@ fn insert_record(
         },
         Inserted::Done(splits, next) => Recorded {
             word: splits,
-            state: next,
+            state: state.changed(next.free_group, next.free_place, next.live),
         },
     }
 }
@@ -80,7 +80,7 @@ fn remove_record(
     match remove_dot(state, dot.id, dot.rect, nodes, dots, rects) {
         Removed::Yes(next) => Recorded {
             word: 1,
-            state: next,
+            state: state.changed(next.free_group, next.free_place, next.live),
         },
         Removed::No => Recorded { word: 0, state },
     }
@@ -110,7 +110,7 @@ fn carry_out(
         let next = done.state;
         return Recorded {
             word: yes_no(done.yes),
-            state: next,
+            state: state.changed(next.free_group, next.free_place, next.live),
         };
     }
     Recorded {

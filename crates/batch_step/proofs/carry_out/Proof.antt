@@ -4,7 +4,7 @@ use Prim.Native.Nat.{ℕ}
 use Rattle.model.specs.Calls.{carryOut}
 use Rattle.tree_cleanup.specs.Answers.{CleanedUp}
 use Rattle.batch_step.specs.Steps.{Leaves}
-use Rattle.batch_step.specs.Laws.Records.{cleanup-leaves, other-leaves, kind-leaves}
+use Rattle.batch_step.specs.Laws.Records.{cleanup-leaves, other-leaves, kind-leaves, leaves-changed}
 use borrow.Author.Needs.{needs}
 use Rattle.batch_step.proofs.carry_out.Statement.{statement}
 use Rattle.batch_step.proofs.carry_out.Tie as tie
@@ -49,16 +49,24 @@ cleanup-tree-requires c κs = search needs
 yes-no-requires : tie.Need-yes-no-requires
 yes-no-requires c κs = search needs
 
+changed-requires : tie.Need-changed-requires
+changed-requires c κs = search needs
+
 same-length-7 : tie.Need-same-length-7
 same-length-7 c = search needs
 
 returns-3 : tie.Need-returns-3
 unfolding CleanedUp
 returns-3 c =
-    let a = c .before .before .before .before .before .before .before .before .before .before .before .before .args in
-    let done = c .before .before .before .before .cleanup-tree in
-    subst (λ (n : ℕ). Leaves (carryOut (a .«record»)) (a .state) (a .nodes .now) (a .dots .now) (a .rects .now) (done .result .state) (done .last .1 .0) (a .dots .now) (a .rects .now) n) (sym (c .yes-no .ensures))
-    (kind-leaves (a .«record») 2 (c .before .before .before .before .before .before .if3 .taken) (a .state) (a .nodes .now) (a .dots .now) (a .rects .now) _ _ _ _ _ (cleanup-leaves (a .state) (a .nodes .now) (a .dots .now) (a .rects .now) _ _ _ _ (a .«record» .dot) _ (done .ensures (a .dots .now) (a .rects .now))))
+    let c1 = c .before in
+    let c5 = c1 .before .before .before .before in
+    let c7 = c5 .before .before in
+    let c13 = c7 .before .before .before .before .before .before in
+    let a = c13 .args in
+    let done = c5 .cleanup-tree in
+    leaves-changed (a .«record») (a .state) (a .nodes .now) (a .dots .now) (a .rects .now) _ _ _ _ _ _ (c13 .pre) (c .changed .ensures)
+    (subst (λ (n : ℕ). Leaves (carryOut (a .«record»)) (a .state) (a .nodes .now) (a .dots .now) (a .rects .now) (done .result .state) (done .last .1 .0) (a .dots .now) (a .rects .now) n) (sym (c1 .yes-no .ensures))
+    (kind-leaves (a .«record») 2 (c7 .if3 .taken) (a .state) (a .nodes .now) (a .dots .now) (a .rects .now) _ _ _ _ _ (cleanup-leaves (a .state) (a .nodes .now) (a .dots .now) (a .rects .now) _ _ _ _ (a .«record» .dot) _ (done .ensures (a .dots .now) (a .rects .now)))))
 
 refused-word-requires : tie.Need-refused-word-requires
 refused-word-requires c κs = search needs
@@ -85,6 +93,7 @@ carry-out-spec =
     returns-2
     cleanup-tree-requires
     yes-no-requires
+    changed-requires
     same-length-7
     returns-3
     refused-word-requires

@@ -6,7 +6,7 @@ use Rattle.tree.specs.Operations.{CarriedOut}
 use Rattle.tree_insert.specs.declared.Inserted.{Inserted}
 use Rattle.tree_insert.specs.Answers.{insertedState, insertedReply}
 use Rattle.batch_step.specs.Steps.{recordOf, Leaves}
-use Rattle.batch_step.specs.Laws.Records.{refused-small, insert-leaves}
+use Rattle.batch_step.specs.Laws.Records.{refused-small, insert-leaves, leaves-changed}
 use borrow.Author.Needs.{needs}
 use Rattle.batch_step.proofs.insert_record.Statement.{statement}
 use Rattle.batch_step.proofs.insert_record.Tie as tie
@@ -25,6 +25,9 @@ refused-word-requires c κs =
 
 enum-known-splits : tie.Need-enum-known-splits
 enum-known-splits c = search needs
+
+changed-requires : tie.Need-changed-requires
+changed-requires c κs = search needs
 
 same-length : tie.Need-same-length
 same-length c = search needs
@@ -53,9 +56,13 @@ same-length-6 c = search needs
 
 returns-2 : tie.Need-returns-2
 returns-2 c =
-    let a = c .before .before .before .before .before .before .before .before .before .before .before .before .before .before .args in
-    let done = c .before .before .before .before .before .before .before .before .insert-dot in
-    insert-leaves (a .state) (a .nodes .now) (a .dots .now) (a .rects .now) _ _ _ _ (a .dot) _ (subst (λ (r : Inserted). CarriedOut (insertRule (a .dot)) (a .state) (a .nodes .now) (a .dots .now) (a .rects .now) (insertedState (a .state) r) (done .last .1 .1 .0) (done .last .1 .1 .1 .0) (done .last .1 .1 .1 .1 .0) (insertedReply r)) (c .before .splits .given .1) (done .ensures))
+    let c2 = c .before .before in
+    let c9 = c2 .before .before .before .before .before .before .before in
+    let c15 = c9 .before .before .before .before .before .before in
+    let a = c15 .args in
+    let done = c9 .insert-dot in
+    leaves-changed (recordOf 0 (a .dot)) (a .state) (a .nodes .now) (a .dots .now) (a .rects .now) _ _ _ _ _ _ (c15 .pre) (c .changed .ensures)
+    (insert-leaves (a .state) (a .nodes .now) (a .dots .now) (a .rects .now) _ _ _ _ (a .dot) _ (subst (λ (r : Inserted). CarriedOut (insertRule (a .dot)) (a .state) (a .nodes .now) (a .dots .now) (a .rects .now) (insertedState (a .state) r) (done .last .1 .1 .0) (done .last .1 .1 .1 .0) (done .last .1 .1 .1 .1 .0) (insertedReply r)) (c2 .splits .given .1) (done .ensures)))
 
 pub insert-record-spec : {M : Type 1} → statement M
 insert-record-spec =
@@ -65,6 +72,7 @@ insert-record-spec =
     enum-known-number
     refused-word-requires
     enum-known-splits
+    changed-requires
     same-length
     same-length-2
     same-length-3

@@ -4,7 +4,8 @@ use Rattle.model.specs.Calls.{removeRule}
 use Rattle.tree.specs.Operations.{CarriedOut}
 use Rattle.tree_remove.specs.declared.Removed.{Removed}
 use Rattle.tree_remove.specs.Answers.{removedState, removedReply}
-use Rattle.batch_step.specs.Laws.Records.{remove-leaves}
+use Rattle.batch_step.specs.Steps.{recordOf}
+use Rattle.batch_step.specs.Laws.Records.{remove-leaves, leaves-changed}
 use borrow.Author.Needs.{needs}
 use Rattle.batch_step.proofs.remove_record.Statement.{statement}
 use Rattle.batch_step.proofs.remove_record.Tie as tie
@@ -14,6 +15,9 @@ remove-dot-requires c κs = search needs
 
 enum-known-next : tie.Need-enum-known-next
 enum-known-next c = search needs
+
+changed-requires : tie.Need-changed-requires
+changed-requires c κs = search needs
 
 enum-told : tie.Need-enum-told
 enum-told c = search needs
@@ -29,9 +33,13 @@ same-length-3 c = search needs
 
 returns : tie.Need-returns
 returns c =
-    let a = c .before .before .before .before .before .before .before .before .before .before .before .before .before .before .args in
-    let done = c .before .before .before .before .before .before .before .before .remove-dot in
-    remove-leaves (a .state) (a .nodes .now) (a .dots .now) (a .rects .now) _ _ _ _ (a .dot) _ (subst (λ (r : Removed). CarriedOut (removeRule (a .dot .id) (a .dot .rect)) (a .state) (a .nodes .now) (a .dots .now) (a .rects .now) (removedState (a .state) r) (done .last .1 .1 .1 .0) (done .last .1 .1 .1 .1 .0) (done .last .1 .1 .1 .1 .1 .0) (removedReply r)) (c .before .next .given .1) (done .ensures))
+    let c2 = c .before .before in
+    let c9 = c2 .before .before .before .before .before .before .before in
+    let c15 = c9 .before .before .before .before .before .before in
+    let a = c15 .args in
+    let done = c9 .remove-dot in
+    leaves-changed (recordOf 1 (a .dot)) (a .state) (a .nodes .now) (a .dots .now) (a .rects .now) _ _ _ _ _ _ (c15 .pre) (c .changed .ensures)
+    (remove-leaves (a .state) (a .nodes .now) (a .dots .now) (a .rects .now) _ _ _ _ (a .dot) _ (subst (λ (r : Removed). CarriedOut (removeRule (a .dot .id) (a .dot .rect)) (a .state) (a .nodes .now) (a .dots .now) (a .rects .now) (removedState (a .state) r) (done .last .1 .1 .1 .0) (done .last .1 .1 .1 .1 .0) (done .last .1 .1 .1 .1 .1 .0) (removedReply r)) (c2 .next .given .1) (done .ensures)))
 
 same-length-4 : tie.Need-same-length-4
 same-length-4 c = search needs
@@ -54,6 +62,7 @@ remove-record-spec =
     (tie.spec
     remove-dot-requires
     enum-known-next
+    changed-requires
     enum-told
     same-length
     same-length-2

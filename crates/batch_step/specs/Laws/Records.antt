@@ -2,6 +2,7 @@
 --     refused-small        an insert's refusals are at most 7
 --     replyWord    the answer word of a reply
 --     insert-leaves, remove-leaves, cleanup-leaves, other-leaves, kind-leaves      a record of each kind
+--     leaves-changed       the state after it has the settings before
 use mathlib.Core.Path.{_≡_, refl, ap, sym, _∙_, subst}
 use mathlib.Core.List.{List, []}
 use mathlib.Core.Bool.{Bool, _||_}
@@ -18,10 +19,11 @@ use Rattle.model.specs.declared.Record.{Record}
 use Rattle.model.specs.declared.State.{State}
 use Rattle.model.specs.Trees.{size}
 use Rattle.model.specs.Shapes.{Shape, Valid, splitsNeeded}
-use Rattle.model.specs.Layout.{World, world, cleared, layout, Holds}
+use Rattle.model.specs.Layout.{World, world, cleared, layout, Holds, changedState}
 use Rattle.model.specs.Calls.{Reply, refused, tooMany, answered, Verdict, refuse, overflow, accept, Recorded, exit, refusal, carriedOut, recorded, refusedWord, yesNo, insertRule, removeRule, cleanupRule, carryOut}
+use Rattle.model.specs.Laws.Layout.{holds-settings}
 use Rattle.model.specs.Laws.Calls.{world-of, reply-of}
-use Rattle.model.specs.Laws.Batches.{record-valid, insert-record, remove-record, cleanup-record, other-record}
+use Rattle.model.specs.Laws.Batches.{record-valid, record-settings, insert-record, remove-record, cleanup-record, other-record}
 use Rattle.tree.specs.Operations.{IsTree, CarriedOut}
 use Rattle.batch_step.specs.Steps.{recordOf, Leaves}
 
@@ -81,6 +83,25 @@ other-leaves s nodes dots rects kind dot a b c marks x h =
 pub kind-leaves : (r : Record) (k : ℕ) → r .kind ≡ k → (s : State) (nodes dots : List ℕ) (rects : List ℤ) (s′ : State) (nodes′ dots′ : List ℕ) (rects′ : List ℤ) (word : ℕ)
     → Leaves (carryOut (recordOf k (r .dot))) s nodes dots rects s′ nodes′ dots′ rects′ word → Leaves (carryOut r) s nodes dots rects s′ nodes′ dots′ rects′ word
 kind-leaves r k e s nodes dots rects s′ nodes′ dots′ rects′ word d = subst (λ (j : ℕ). Leaves (carryOut (recordOf j (r .dot))) s nodes dots rects s′ nodes′ dots′ rects′ word) (sym e) d
+
+kept-settings : (r : Record) (s : State) (nodes dots : List ℕ) (rects : List ℤ) (s′ : State) (nodes′ dots′ : List ℕ) (rects′ : List ℤ) (word : ℕ)
+    → IsTree s nodes dots rects → Leaves (carryOut r) s nodes dots rects s′ nodes′ dots′ rects′ word → s′ .settings ≡ s .settings
+unfolding Leaves
+kept-settings r s nodes dots rects s′ nodes′ dots′ rects′ word t l =
+    let x = t .shape in
+    holds-settings (world s′ nodes′ dots′ rects′ (t .marks)) (carryOut r x .shape) (l (t .marks) x (t .holds) .0)
+    ∙ record-settings r x
+    ∙ sym (holds-settings (world s nodes dots rects (t .marks)) x (t .holds))
+
+-- the settings are kept, so that the state after a record is the one before with other heads and another live number
+pub leaves-changed : (r : Record) (s : State) (nodes dots : List ℕ) (rects : List ℤ) (s′ : State) (nodes′ dots′ : List ℕ) (rects′ : List ℤ) (word : ℕ) (u : State)
+    → IsTree s nodes dots rects → u ≡ changedState s (s′ .«free_group») (s′ .«free_place») (s′ .live)
+    → Leaves (carryOut r) s nodes dots rects s′ nodes′ dots′ rects′ word → Leaves (carryOut r) s nodes dots rects u nodes′ dots′ rects′ word
+leaves-changed r s nodes dots rects s′ nodes′ dots′ rects′ word u t e l =
+    let settings = kept-settings r s nodes dots rects s′ nodes′ dots′ rects′ word t l in
+    let same : s′ ≡ changedState s (s′ .«free_group») (s′ .«free_place») (s′ .live) =
+    λ i. record { settings = settings i; «free_group» = s′ .«free_group»; «free_place» = s′ .«free_place»; live = s′ .live } in
+    subst (λ (v : State). Leaves (carryOut r) s nodes dots rects v nodes′ dots′ rects′ word) (same ∙ sym e) l
 
 -- ---- refusals
 

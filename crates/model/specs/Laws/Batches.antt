@@ -2,18 +2,23 @@
 --     batch-words  an answer word for each record
 --     batch-append a batch of two lists is the first, then the second
 --     record-valid, batch-valid    it keeps the tree
+--     record-settings      it keeps the settings
 --     insert-record, remove-record, cleanup-record, other-record   a record is its single operation
 use mathlib.Core.Path.{_≡_, refl, ap, sym, subst}
+use mathlib.Core.Bool.{_||_}
 use mathlib.Core.Logic.{⊎-elim}
 use mathlib.Core.List.{List, [], _∷_, _++_}
 use Prim.Native.Nat.{ℕ, suc, _+_}
 use lib.ListN.{length}
-use lib.Dec.{eqb}
+use lib.Dec.{eqb, ltb}
 use borrow.Author.Tests.{eq-eqb, ne-eqb}
 use Rattle.arithmetic.specs.Tests.{byBool}
 use Rattle.model.specs.declared.Dot.{Dot}
 use Rattle.model.specs.declared.Record.{Record}
-use Rattle.model.specs.Shapes.{Shape, Valid, foundBy}
+use Rattle.model.specs.Trees.{size}
+use Rattle.model.specs.Shapes.{Shape, Valid, foundBy, inserted, removed, cleaned, splitsNeeded}
+use Rattle.geometry.specs.Rectangles.{inverted, farOut}
+use Rattle.geometry.specs.Settings.{rootOf, contains}
 use Rattle.model.specs.Calls.{recorded, refusedWord, yesNo, insertRule, removeRule, cleanupRule, carryOut, batchShape, batchWords}
 use Rattle.model.specs.Laws.Shapes.{inserted-valid, removed-valid, cleaned-valid}
 use Rattle.model.specs.Laws.Calls.{insert-cases}
@@ -65,6 +70,31 @@ cleanup-keeps : (x : Shape) → Valid x → Valid (recorded yesNo x (cleanupRule
 unfolding cleanupRule
 cleanup-keeps x v = cleaned-valid x v
 
+insert-settings : (dot : Dot) (x : Shape) → recorded (λ splits. splits) x (insertRule dot x) .shape .settings ≡ x .settings
+unfolding insertRule inserted
+insert-settings dot x =
+    let r = dot .rect in
+    byBool (inverted r || farOut r)
+    (λ e₄. rw e₄ refl)
+    (λ e₄.
+    byBool (contains (rootOf (x .settings)) r)
+    (λ e₅.
+    byBool (eqb (size (x .tree)) (x .places))
+    (λ e₆. rw (e₄, e₅, e₆) refl)
+    (λ e₆.
+    byBool (ltb (length (x .freeGroups)) (splitsNeeded dot x))
+    (λ e₇. rw (e₄, e₅, e₆, e₇) refl)
+    (λ e₇. rw (e₄, e₅, e₆, e₇) refl)))
+    (λ e₅. rw (e₄, e₅) refl))
+
+remove-settings : (dot : Dot) (x : Shape) → recorded yesNo x (removeRule (dot .id) (dot .rect) x) .shape .settings ≡ x .settings
+unfolding removeRule removed
+remove-settings dot x = byBool (foundBy (dot .id) (dot .rect) x) (λ e. rw e refl) (λ e. rw e refl)
+
+cleanup-settings : (x : Shape) → recorded yesNo x (cleanupRule x) .shape .settings ≡ x .settings
+unfolding cleanupRule cleaned
+cleanup-settings x = refl
+
 pub record-valid : (r : Record) (x : Shape) → Valid x → Valid (carryOut r x .shape)
 unfolding carryOut
 record-valid r x v =
@@ -75,6 +105,18 @@ record-valid r x v =
     (byBool (eqb (r .kind) 1)
     (λ f. rw f (remove-keeps (r .dot) x v))
     (λ f. rw f (byBool (eqb (r .kind) 2) (λ g. rw g (cleanup-keeps x v)) (λ g. rw g v)))))
+
+-- a record keeps the settings
+pub record-settings : (r : Record) (x : Shape) → carryOut r x .shape .settings ≡ x .settings
+unfolding carryOut
+record-settings r x =
+    byBool (eqb (r .kind) 0)
+    (λ e. rw e (insert-settings (r .dot) x))
+    (λ e.
+    rw e
+    (byBool (eqb (r .kind) 1)
+    (λ f. rw f (remove-settings (r .dot) x))
+    (λ f. rw f (byBool (eqb (r .kind) 2) (λ g. rw g (cleanup-settings x)) (λ g. rw g refl)))))
 
 pub batch-valid : (rs : List Record) (x : Shape) → Valid x → Valid (batchShape rs x)
 batch-valid [] x v = v
