@@ -3,7 +3,9 @@ ghost use mathlib.Core.Path.{_≡_};
 ghost use Prim.Native.Nat.{_≤_, _<_};
 ghost use lib.ListN.{length};
 ghost use Rattle.tree_query.specs.Rows.{kept};
-ghost use Rattle.tree_query.specs.Walks.{hitsAfter, rowWith, ChainWalk, NodeWalk, GroupWalk, ChainWalked, NodeWalked, GroupWalked};
+ghost use Rattle.model.specs.Memory.{rectAt, dotAt};
+ghost use Rattle.memory.specs.Rows.{HasPlace, HasRect};
+ghost use Rattle.tree_query.specs.Walks.{reachesRect, hitsAfter, rowWith, ChainWalk, NodeWalk, GroupWalk, ChainWalked, NodeWalked, GroupWalked};
 use geometry::aabb::AABB;
 use geometry::centered_aabb::CenteredAABB;
 use geometry::quadrants::Quadrants;
@@ -41,6 +43,45 @@ fn list_dot(query: AABB, dot: Dot, row: &mut [u32], room: usize, hits: usize) ->
     hits + 1
 }
 
+// Whether the query reaches the rectangle of a place: neither lies beyond the other on an axis. It reads no more words than it needs.
+fn reaches(query: AABB, rects: &[i32], place: usize) -> bool
+    requires { ⌜ HasRect (now rects) place ⌝ }
+    ensures { λ r. ⌜ r ≡ reachesRect query (rectAt (now (rects .entry)) place) ⌝ }
+{
+    if rects[4 * place + 2] < query.x1 {
+        return false;
+    }
+    if query.x2 < rects[4 * place + 0] {
+        return false;
+    }
+    if rects[4 * place + 3] < query.y1 {
+        return false;
+    }
+    if query.y2 < rects[4 * place + 1] {
+        return false;
+    }
+    true
+}
+
+// Lists the dot of a place where the query meets it; how many are then listed.
+fn list_place(
+    query: AABB,
+    dots: &[u32],
+    rects: &[i32],
+    row: &mut [u32],
+    room: usize,
+    hits: usize,
+    place: usize,
+) -> usize
+    requires { ⌜ HasPlace (now dots) place × HasRect (now rects) place × (room ≤ length (now row)) × (hits < 65536) ⌝ }
+    ensures { λ r. ⌜ (r ≡ hitsAfter query (dotAt (now (dots .entry)) (now (rects .entry)) place) hits) × (now (row .exit) ≡ rowWith query (dotAt (now (dots .entry)) (now (rects .entry)) place) room (now (row .entry)) hits) ⌝ }
+{
+    if !reaches(query, rects, place) {
+        return hits;
+    }
+    list_dot(query, dot_at(dots, rects, place), row, room, hits)
+}
+
 // Lists the dots of a chain that the query meets.
 fn walk_chain(
     query: AABB,
@@ -61,8 +102,8 @@ fn walk_chain(
     let mut left = count;
     while left > 0 {
         let p = place as usize;
-        hits = list_dot(query, dot_at(dots, rects, p), row, room, hits);
         place = next_at(dots, p);
+        hits = list_place(query, dots, rects, row, room, hits, p);
         left -= 1;
     }
     Found { hits, opened }
