@@ -156,11 +156,10 @@ pub fn walk_node(
         opened,
         first,
         levels - 1,
-        5,
     )
 }
 
-// Hands back the last `left` children of a group, those that the query opens.
+// Hands back the children of a group that the query opens, from child 0 on.
 fn walk_group(
     query: AABB,
     cell: CenteredAABB,
@@ -173,57 +172,32 @@ fn walk_group(
     found: Found,
     first: usize,
     levels: u32,
-    left: u32,
 ) -> Found
-    requires { ⌜ GroupWalk query cell quadrants (now nodes) (now dots) (now rects) room (now row) found first levels left ⌝ }
-    ensures { λ r. ⌜ GroupWalked query cell (now (nodes .entry)) (now (dots .entry)) (now (rects .entry)) room (now (row .entry)) found first levels left (now (row .exit)) r ⌝ }
+    requires { ⌜ GroupWalk query cell quadrants (now nodes) (now dots) (now rects) room (now row) found first levels 5 ⌝ }
+    ensures { λ r. ⌜ GroupWalked query cell (now (nodes .entry)) (now (dots .entry)) (now (rects .entry)) room (now (row .entry)) found first levels 5 (now (row .exit)) r ⌝ }
 {
-    if left == 0 {
-        return found;
-    }
-    let child = 5 - left;
-    if !((child == 0) | quadrants.at(child)) {
-        return walk_group(
+    let mut met = found;
+    let mut left = 5u32;
+    while left > 0 {
+        let child = 5 - left;
+        left -= 1;
+        if !((child == 0) | quadrants.at(child)) {
+            continue;
+        }
+        let below = cell.split(child);
+        let node = first + child as usize;
+        met = walk_node(
             query,
-            cell,
-            quadrants,
+            below,
             nodes,
             dots,
             rects,
             row,
             room,
-            found,
-            first,
+            met,
+            node,
             levels,
-            left - 1,
         );
     }
-    let below = cell.split(child);
-    let node = first + child as usize;
-    let next = walk_node(
-        query,
-        below,
-        nodes,
-        dots,
-        rects,
-        row,
-        room,
-        found,
-        node,
-        levels,
-    );
-    walk_group(
-        query,
-        cell,
-        quadrants,
-        nodes,
-        dots,
-        rects,
-        row,
-        room,
-        next,
-        first,
-        levels,
-        left - 1,
-    )
+    met
 }
