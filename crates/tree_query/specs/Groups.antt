@@ -1,5 +1,4 @@
 -- The walk of a node and of its group: a law for each way through the code.
---     not-branch, is-branch        what a test for a branch says of the count
 --     left-none, left-then         nothing more; one walk after another
 --     leaf-chain, leaf-walked      a leaf
 --     branch-group, branch-walked  a branch
@@ -239,7 +238,7 @@ module _ (nodes dots : List ℕ) (rects : List ℤ) (room : ℕ) (row : List ℕ
 
 -- ---- a group
 
-pub group-none : (q : AABB) (cell : CenteredAABB) (nodes dots : List ℕ) (rects : List ℤ) (room : ℕ) (row : List ℕ) (found : Found) (first levels left : ℕ) → left ≡ 0
+group-none : (q : AABB) (cell : CenteredAABB) (nodes dots : List ℕ) (rects : List ℤ) (room : ℕ) (row : List ℕ) (found : Found) (first levels left : ℕ) → left ≡ 0
     → GroupWalked q cell nodes dots rects room row found first levels left row found
 unfolding GroupWalked
 group-none q cell nodes dots rects room row found first levels left z = λ g f n h s e.
@@ -297,10 +296,10 @@ module _ (q : AABB) (cell : CenteredAABB) (quadrants : Quadrants) (nodes dots : 
 
   -- ---- the child is not opened
 
-  pub group-skip : GroupWalk q cell quadrants nodes dots rects room row found first levels (left - 1)
+  group-skip : GroupWalk q cell quadrants nodes dots rects room row found first levels (left - 1)
   group-skip = rest row found refl (omega arith) (omega arith)
 
-  pub group-skipped : (row′ : List ℕ) (r : Found) → (eqb (5 - left) 0 || bitAt (quadrants .code) (5 - left)) ≡ false
+  group-skipped : (row′ : List ℕ) (r : Found) → (eqb (5 - left) 0 || bitAt (quadrants .code) (5 - left)) ≡ false
       → GroupWalked q cell nodes dots rects room row found first levels (left - 1) row′ r → GroupWalked q cell nodes dots rects room row found first levels left row′ r
   unfolding GroupWalked
   group-skipped row′ r shut g = λ group f n h s e.
@@ -340,7 +339,7 @@ module _ (q : AABB) (cell : CenteredAABB) (quadrants : Quadrants) (nodes dots : 
     some-data : NodeData
     some-data = record { cell = cell; depth = 0; «is_child_0» = false }
 
-    pub group-rest : GroupWalk q cell quadrants nodes dots rects room row₁ f₁ first levels (left - 1)
+    group-rest : GroupWalk q cell quadrants nodes dots rects room row₁ f₁ first levels (left - 1)
     unfolding some-data after
     group-rest =
         let i = 5 - left in
@@ -351,7 +350,7 @@ module _ (q : AABB) (cell : CenteredAABB) (quadrants : Quadrants) (nodes dots : 
         (omega (arith, ap (λ (f : Found). f .hits) (l .answer), hits-size q n t))
         (omega (arith, ap (λ (f : Found). f .opened) (l .answer), opened-total q n t))
 
-    pub group-walked : (row₂ : List ℕ) (f₂ : Found) → (eqb (5 - left) 0 || bitAt (quadrants .code) (5 - left)) ≡ true
+    group-walked : (row₂ : List ℕ) (f₂ : Found) → (eqb (5 - left) 0 || bitAt (quadrants .code) (5 - left)) ≡ true
         → GroupWalked q cell nodes dots rects room row₁ f₁ first levels (left - 1) row₂ f₂ → GroupWalked q cell nodes dots rects room row found first levels left row₂ f₂
     unfolding GroupWalked
     group-walked row₂ f₂ shown g = λ group f n h s e.
