@@ -1,4 +1,5 @@
 -- The walk of a chain: what is left to list, at each turn of the loop.
+--     unreached    a rectangle that the query does not reach does not intersect it
 --     dot-missed, dot-hit  one dot
 --     Rest         what has been listed and what is left make the whole
 --     rest-start, rest-turn, rest-end      the loop's three steps
@@ -10,9 +11,12 @@ use Prim.Native.Nat.{ℕ, _+_, _-_, _≤_, _<_}
 use native.Mathlib.Omega.{arith}
 use lib.IntN.{ℤ}
 use lib.ListN.{length}
-use Rattle.arithmetic.specs.Tests.{byBool}
+use lib.Signed.{ltZ}
+use Rattle.arithmetic.specs.Tests.{byBool, true-false}
+use Rattle.arithmetic.specs.Linear.{ints}
 use Rattle.geometry.specs.declared.aabb.AABB.{AABB}
 use Rattle.geometry.specs.Rectangles.{intersects}
+use Rattle.geometry.specs.Laws.Geometry.{meets}
 use Rattle.model.specs.declared.Dot.{Dot}
 use Rattle.model.specs.Lists.{All}
 use Rattle.model.specs.Dots.{isHit}
@@ -24,9 +28,22 @@ use Rattle.tree.specs.Readings.{read}
 use Rattle.tree.specs.Standing.{InRows}
 use Rattle.tree_query.specs.declared.walk.Found.{Found}
 use Rattle.tree_query.specs.Rows.{kept, keptAll, kept-length}
-use Rattle.tree_query.specs.Walks.{chainHits, hitsAfter, rowWith, after, rowAfter, Left, ChainWalked}
+use Rattle.tree_query.specs.Walks.{chainHits, reachesRect, hitsAfter, rowWith, after, rowAfter, Left, ChainWalked}
 
 -- ---- one dot
+
+reached : (q r : AABB) → intersects q r ≡ true → reachesRect q r ≡ true
+unfolding reachesRect
+reached q r h =
+    let m = meets q r h in
+    let left : ltZ (r .x2) (q .x1) ≡ false = omega (arith, ints, m .ax) in
+    let right : ltZ (q .x2) (r .x1) ≡ false = omega (arith, ints, m .bx) in
+    let above : ltZ (r .y2) (q .y1) ≡ false = omega (arith, ints, m .ay) in
+    let below : ltZ (q .y2) (r .y1) ≡ false = omega (arith, ints, m .by) in
+    rw (left, right, above, below) refl
+
+pub unreached : (q r : AABB) → reachesRect q r ≡ false → intersects q r ≡ false
+unreached q r e = byBool (intersects q r) (λ h. true-false (sym (reached q r h) ∙ e)) (λ h. h)
 
 module _ (q : AABB) (d : Dot) (room : ℕ) (row : List ℕ) (at : ℕ) where
   pub dot-missed : intersects q (d .rect) ≡ false → (at ≡ hitsAfter q d at) × (row ≡ rowWith q d room row at)
@@ -117,11 +134,12 @@ module _ (q : AABB) (dots : List ℕ) (rects : List ℤ) (room : ℕ) where
           rest = λ whole s l. turn-of whole (inv .rest whole s l) h;
         }
 
-    -- a turn, by what its calls ensure: d is the dot that was read
-    pub rest-turn : 0 < left → (d : Dot) → d ≡ dotAt dots rects place → (row′ : List ℕ) (at′ place′ : ℕ) → at′ ≡ hitsAfter q d at → row′ ≡ rowWith q d room row at → place′ ≡ nextAt dots place
+    -- a turn, by what its calls ensure
+    pub rest-turn : 0 < left → (row′ : List ℕ) (at′ place′ : ℕ)
+        → at′ ≡ hitsAfter q (dotAt dots rects place) at → row′ ≡ rowWith q (dotAt dots rects place) room row at → place′ ≡ nextAt dots place
         → Rest row₀ at₀ head count row′ at′ place′ (left - 1)
-    rest-turn h d e row′ at′ place′ k r n =
-        rw (r, k, n, e) (turned h)
+    rest-turn h row′ at′ place′ k r n =
+        rw (r, k, n) (turned h)
 
     -- the place that a turn reads
     pub rest-place : (whole : List Placed) → Chain head whole → length whole ≡ count → All (InRows dots rects) whole → 0 < left → HasPlace dots place × HasRect rects place

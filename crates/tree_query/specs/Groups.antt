@@ -1,9 +1,9 @@
 -- The walk of a node and of its group: a law for each way through the code.
---     not-branch, is-branch        what a test for a branch says of the count
 --     left-none, left-then         nothing more; one walk after another
 --     leaf-chain, leaf-walked      a leaf
 --     branch-group, branch-walked  a branch
 --     group-none; group-skip, group-skipped; group-node, group-rest, group-walked  a group: no child left; a child that isn't opened; one that is
+--     Ahead; ahead-start, ahead-skip, ahead-walked, ahead-end      the loop over a group's children, at each turn, and its steps
 use mathlib.Core.Path.{_≡_, refl, ap, sym, _∙_, subst}
 use mathlib.Core.List.{List, [], _∷_, _++_, map, append-assoc, append-nil}
 use mathlib.Core.Bool.{Bool, true, false, cond, _||_}
@@ -238,7 +238,7 @@ module _ (nodes dots : List ℕ) (rects : List ℤ) (room : ℕ) (row : List ℕ
 
 -- ---- a group
 
-pub group-none : (q : AABB) (cell : CenteredAABB) (nodes dots : List ℕ) (rects : List ℤ) (room : ℕ) (row : List ℕ) (found : Found) (first levels left : ℕ) → left ≡ 0
+group-none : (q : AABB) (cell : CenteredAABB) (nodes dots : List ℕ) (rects : List ℤ) (room : ℕ) (row : List ℕ) (found : Found) (first levels left : ℕ) → left ≡ 0
     → GroupWalked q cell nodes dots rects room row found first levels left row found
 unfolding GroupWalked
 group-none q cell nodes dots rects room row found first levels left z = λ g f n h s e.
@@ -296,10 +296,10 @@ module _ (q : AABB) (cell : CenteredAABB) (quadrants : Quadrants) (nodes dots : 
 
   -- ---- the child is not opened
 
-  pub group-skip : GroupWalk q cell quadrants nodes dots rects room row found first levels (left - 1)
+  group-skip : GroupWalk q cell quadrants nodes dots rects room row found first levels (left - 1)
   group-skip = rest row found refl (omega arith) (omega arith)
 
-  pub group-skipped : (row′ : List ℕ) (r : Found) → (eqb (5 - left) 0 || bitAt (quadrants .code) (5 - left)) ≡ false
+  group-skipped : (row′ : List ℕ) (r : Found) → (eqb (5 - left) 0 || bitAt (quadrants .code) (5 - left)) ≡ false
       → GroupWalked q cell nodes dots rects room row found first levels (left - 1) row′ r → GroupWalked q cell nodes dots rects room row found first levels left row′ r
   unfolding GroupWalked
   group-skipped row′ r shut g = λ group f n h s e.
@@ -339,7 +339,7 @@ module _ (q : AABB) (cell : CenteredAABB) (quadrants : Quadrants) (nodes dots : 
     some-data : NodeData
     some-data = record { cell = cell; depth = 0; «is_child_0» = false }
 
-    pub group-rest : GroupWalk q cell quadrants nodes dots rects room row₁ f₁ first levels (left - 1)
+    group-rest : GroupWalk q cell quadrants nodes dots rects room row₁ f₁ first levels (left - 1)
     unfolding some-data after
     group-rest =
         let i = 5 - left in
@@ -350,7 +350,7 @@ module _ (q : AABB) (cell : CenteredAABB) (quadrants : Quadrants) (nodes dots : 
         (omega (arith, ap (λ (f : Found). f .hits) (l .answer), hits-size q n t))
         (omega (arith, ap (λ (f : Found). f .opened) (l .answer), opened-total q n t))
 
-    pub group-walked : (row₂ : List ℕ) (f₂ : Found) → (eqb (5 - left) 0 || bitAt (quadrants .code) (5 - left)) ≡ true
+    group-walked : (row₂ : List ℕ) (f₂ : Found) → (eqb (5 - left) 0 || bitAt (quadrants .code) (5 - left)) ≡ true
         → GroupWalked q cell nodes dots rects room row₁ f₁ first levels (left - 1) row₂ f₂ → GroupWalked q cell nodes dots rects room row found first levels left row₂ f₂
     unfolding GroupWalked
     group-walked row₂ f₂ shown g = λ group f n h s e.
@@ -360,3 +360,37 @@ module _ (q : AABB) (cell : CenteredAABB) (quadrants : Quadrants) (nodes dots : 
         let others = g group f n h (λ j low b. s j (omega arith) b) e in
         rw (hits-step q n f left some, opened-step q n f left some, yes)
         (left-then room row found (hits q (childData n i) (f i)) (groupHits q n f (left - 1)) (opened q (childData n i) (f i)) (groupOpened q n f (left - 1)) row₁ row₂ f₁ f₂ one others)
+
+-- ---- the loop over a group's children
+
+module _ (q : AABB) (cell : CenteredAABB) (quadrants : Quadrants) (nodes dots : List ℕ) (rects : List ℤ) (room : ℕ) (row₀ : List ℕ) (found₀ : Found) (first levels : ℕ) where
+  -- the last `left` children are to be walked; with what has been met they make the whole
+  pub record Ahead (row : List ℕ) (found : Found) (left : ℕ) : Type 0 where
+    pub walk : GroupWalk q cell quadrants nodes dots rects room row found first levels left
+    pub same : length row ≡ length row₀
+    pub whole : (row′ : List ℕ) (r : Found) → GroupWalked q cell nodes dots rects room row found first levels left row′ r
+        → GroupWalked q cell nodes dots rects room row₀ found₀ first levels 5 row′ r
+
+  pub ahead-start : GroupWalk q cell quadrants nodes dots rects room row₀ found₀ first levels 5 → Ahead row₀ found₀ 5
+  ahead-start w = record { walk = w; same = refl; whole = λ row′ r g. g }
+
+  module _ (row : List ℕ) (found : Found) (left : ℕ) (a : Ahead row found left) where
+    pub ahead-skip : 1 ≤ left → (eqb (5 - left) 0 || bitAt (quadrants .code) (5 - left)) ≡ false → Ahead row found (left - 1)
+    ahead-skip some shut =
+        record {
+          walk = group-skip q cell quadrants nodes dots rects room row found first levels left some (a .walk);
+          same = a .same;
+          whole = λ row′ r g. a .whole row′ r (group-skipped q cell quadrants nodes dots rects room row found first levels left some (a .walk) row′ r shut g);
+        }
+
+    pub ahead-walked : 1 ≤ left → (eqb (5 - left) 0 || bitAt (quadrants .code) (5 - left)) ≡ true → (below : CenteredAABB) → below ≡ childCell cell (5 - left) → (row₁ : List ℕ) (f₁ : Found)
+        → NodeWalked q below nodes dots rects room row found (first + (5 - left)) levels row₁ f₁ → length row₁ ≡ length row → Ahead row₁ f₁ (left - 1)
+    ahead-walked some shown below b row₁ f₁ node l =
+        record {
+          walk = group-rest q cell quadrants nodes dots rects room row found first levels left some (a .walk) below b row₁ f₁ node;
+          same = l ∙ a .same;
+          whole = λ row′ r g. a .whole row′ r (group-walked q cell quadrants nodes dots rects room row found first levels left some (a .walk) below b row₁ f₁ node row′ r shown g);
+        }
+
+    pub ahead-end : left ≡ 0 → GroupWalked q cell nodes dots rects room row₀ found₀ first levels 5 row found
+    ahead-end z = a .whole row found (group-none q cell nodes dots rects room row found first levels left z)

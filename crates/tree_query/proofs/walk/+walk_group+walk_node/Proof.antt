@@ -1,5 +1,5 @@
 -- The query's walk lists what the query meets in the tree at a node, and counts the nodes opened. The node's walk hands its group on, the group's hands each child back.
--- The measure: seven for each level left, and in a group one more and the children left.
+-- The measure: two for each level left, and in a group one more. The loop's invariant: what has been met and what is ahead make the whole (`Ahead`). The children left fall.
 use mathlib.Core.Path.{ap, sym, _∙_, subst}
 use mathlib.Core.Bool.{Bool, _||_}
 use native.Mathlib.Omega.{arith}
@@ -9,8 +9,8 @@ use borrow.Author.Tests.{not-true, not-false}
 use Rattle.model.specs.Trees.{childNode}
 use Rattle.memory.specs.declared.node.Node.{Node}
 use Rattle.tree_query.specs.Walks.{ChainWalk, ChainWalked, GroupWalk, GroupWalked}
-use Rattle.tree_query.specs.Groups.{opening, node-in, opening-fits, leaf-chain, leaf-walked, branch-levels, branch-group, branch-walked, group-none, group-skip, group-skipped, group-node, group-rest, group-walked}
-use Prim.Native.Nat.{ℕ, _<_, _≤_, _+_, _-_, _*_}
+use Rattle.tree_query.specs.Groups.{opening, node-in, opening-fits, leaf-chain, leaf-walked, branch-levels, branch-group, branch-walked, group-node, Ahead, ahead-start, ahead-skip, ahead-walked, ahead-end}
+use Prim.Native.Nat.{ℕ, _<_, _+_, _-_, _*_}
 use borrow.Fn.Kinds.{In}
 use borrow.Fn.PlainCycle.{Measures, is, falls, and}
 use Rattle.tree_query.proofs.walk.walk_group.Reads as walk-group
@@ -30,10 +30,10 @@ use Rattle.tree_query.proofs.walk.+walk_group+walk_node.{statement}
 use Rattle.tree_query.proofs.walk.+walk_group+walk_node.Tie.{close}
 
 abbrev μ-walk-group : Measures 4 walk-group-kinds.ps ℕ
-μ-walk-group κs a = 7 * a .1 .1 .1 .1 .1 .1 .1 .1 .1 .1 .0 + 1 + a .1 .1 .1 .1 .1 .1 .1 .1 .1 .1 .1 .0
+μ-walk-group κs a = 2 * a .1 .1 .1 .1 .1 .1 .1 .1 .1 .1 .0 + 1
 
 abbrev μ-walk-node : Measures 4 walk-node-kinds.ps ℕ
-μ-walk-node κs a = 7 * a .1 .1 .1 .1 .1 .1 .1 .1 .1 .0
+μ-walk-node κs a = 2 * a .1 .1 .1 .1 .1 .1 .1 .1 .1 .0
 
 abbrev walk-group-at : ℕ → In 4 walk-group-kinds.ps
 walk-group-at t =
@@ -50,200 +50,168 @@ abbrev walk-node-below : ℕ → In 4 walk-node-kinds.ps
 walk-node-below t =
     and 4 walk-node-kinds.ps (falls 4 walk-node-kinds.ps _<_ μ-walk-node t) walk-node.Pre
 
-walk-group-returns : (t : ℕ) → walk-group-lts.Need-returns (
+abbrev walk-group-Inv-loop : walk-group-lts.InvT-loop
+walk-group-Inv-loop query cell quadrants nodes dots rects row₀ room first levels met₀ left₀ row met left =
+    Ahead query cell quadrants nodes dots rects room row₀ met₀ first levels row met left
+
+abbrev walk-group-μ-loop : walk-group-lts.MeasureT-loop
+walk-group-μ-loop query cell quadrants nodes dots rects row₀ room first levels met₀ left₀ row met left = left
+
+walk-group-loop-holds : (t : ℕ) → walk-group-lts.Need-loop-holds (
   at-reads.Asked,
   at-reads.Learnt,
-  walk-group-below t,
-  walk-group.Post,
   split-reads.Asked,
   split-reads.Learnt,
   walk-node-below t,
   walk-node.Post,
-) (walk-group-at t) walk-group.Post
-walk-group-returns t c = let a = c .before .before .before .before .args in group-none (a .query) (a .cell) (a .nodes .now) (a .dots .now) (a .rects .now) (a .room) (a .row .now) (a .found) (a .first) (a .levels) (a .left) (c .if1 .taken)
+) (walk-group-at t) walk-group.Post walk-group-Inv-loop walk-group-μ-loop
+walk-group-loop-holds t c = let a = c .before .before .before .args in ahead-start (a .query) (a .cell) (a .quadrants) (a .nodes .now) (a .dots .now) (a .rects .now) (a .room) (a .row .now) (a .found) (a .first) (a .levels) (c .before .before .before .pre .1)
 
 walk-group-sub-child : (t : ℕ) → walk-group-lts.Need-sub-child (
   at-reads.Asked,
   at-reads.Learnt,
-  walk-group-below t,
-  walk-group.Post,
   split-reads.Asked,
   split-reads.Learnt,
   walk-node-below t,
   walk-node.Post,
-) (walk-group-at t) walk-group.Post
-walk-group-sub-child t c = omega (arith, c .before .before .before .before .pre .1 .small)
+) (walk-group-at t) walk-group.Post walk-group-Inv-loop walk-group-μ-loop
+walk-group-sub-child t c = omega (arith, c .before .loop .inv .walk .small)
+
+walk-group-sub-left : (t : ℕ) → walk-group-lts.Need-sub-left (
+  at-reads.Asked,
+  at-reads.Learnt,
+  split-reads.Asked,
+  split-reads.Learnt,
+  walk-node-below t,
+  walk-node.Post,
+) (walk-group-at t) walk-group.Post walk-group-Inv-loop walk-group-μ-loop
+walk-group-sub-left t c = omega arith
 
 walk-group-at-requires : (t : ℕ) → walk-group-lts.Need-at-requires (
   at-reads.Asked,
   at-reads.Learnt,
-  walk-group-below t,
-  walk-group.Post,
   split-reads.Asked,
   split-reads.Learnt,
   walk-node-below t,
   walk-node.Post,
-) (walk-group-at t) walk-group.Post
+) (walk-group-at t) walk-group.Post walk-group-Inv-loop walk-group-μ-loop
 walk-group-at-requires t c κs = search needs
 
-walk-group-sub-walk-group : (t : ℕ) → walk-group-lts.Need-sub-walk-group (
+walk-group-loop-less : (t : ℕ) → walk-group-lts.Need-loop-less (
   at-reads.Asked,
   at-reads.Learnt,
-  walk-group-below t,
-  walk-group.Post,
   split-reads.Asked,
   split-reads.Learnt,
   walk-node-below t,
   walk-node.Post,
-) (walk-group-at t) walk-group.Post
-walk-group-sub-walk-group t c = omega arith
+) (walk-group-at t) walk-group.Post walk-group-Inv-loop walk-group-μ-loop
+walk-group-loop-less t c = omega arith
 
-walk-group-walk-group-requires : (t : ℕ) → walk-group-lts.Need-walk-group-requires (
+walk-group-loop-again : (t : ℕ) → walk-group-lts.Need-loop-again (
   at-reads.Asked,
   at-reads.Learnt,
-  walk-group-below t,
-  walk-group.Post,
   split-reads.Asked,
   split-reads.Learnt,
   walk-node-below t,
   walk-node.Post,
-) (walk-group-at t) walk-group.Post
-walk-group-walk-group-requires t c κs = let a = c .before .before .before .before .before .before .before .args in
-    let some : 1 ≤ a .left = omega (arith, c .before .before .before .if1 .left) in
-    (omega (arith, c .before .before .before .before .before .before .before .pre .0), group-skip (a .query) (a .cell) (a .quadrants) (a .nodes .now) (a .dots .now) (a .rects .now) (a .room) (a .row .now) (a .found) (a .first) (a .levels) (a .left) some (c .before .before .before .before .before .before .before .pre .1))
-
-walk-group-same-length : (t : ℕ) → walk-group-lts.Need-same-length (
-  at-reads.Asked,
-  at-reads.Learnt,
-  walk-group-below t,
-  walk-group.Post,
-  split-reads.Asked,
-  split-reads.Learnt,
-  walk-node-below t,
-  walk-node.Post,
-) (walk-group-at t) walk-group.Post
-walk-group-same-length t c = c .before .before .walk-group .kept .1 .1 .1 .1 .1 .1 .0
-
-walk-group-returns-2 : (t : ℕ) → walk-group-lts.Need-returns-2 (
-  at-reads.Asked,
-  at-reads.Learnt,
-  walk-group-below t,
-  walk-group.Post,
-  split-reads.Asked,
-  split-reads.Learnt,
-  walk-node-below t,
-  walk-node.Post,
-) (walk-group-at t) walk-group.Post
-walk-group-returns-2 t c = let a = c .before .before .before .before .before .before .before .before .before .before .args in
-    let some : 1 ≤ a .left = omega (arith, c .before .before .before .before .before .before .if1 .left) in
-    group-skipped (a .query) (a .cell) (a .quadrants) (a .nodes .now) (a .dots .now) (a .rects .now) (a .room) (a .row .now) (a .found) (a .first) (a .levels) (a .left) some (c .before .before .before .before .before .before .before .before .before .before .pre .1) _ _
-    (ap (λ (b : Bool). eqb (5 - a .left) 0 || b) (sym (c .before .before .before .before .before .at .ensures)) ∙ not-true _ (c .before .before .before .before .if2 .taken)) (c .before .before .walk-group .ensures)
+) (walk-group-at t) walk-group.Post walk-group-Inv-loop walk-group-μ-loop
+walk-group-loop-again t c = let a = c .before .before .before .before .before .before .before .args in
+    let l = c .before .before .before .loop in
+    ahead-skip (a .query) (a .cell) (a .quadrants) (a .nodes .now) (a .dots .now) (a .rects .now) (a .room) (a .row .now) (a .found) (a .first) (a .levels) (l .row) (l .met) (l .left) (l .inv) (c .before .before .loop-test .taken)
+    (ap (λ (b : Bool). eqb (5 - l .left) 0 || b) (sym (c .before .at .ensures)) ∙ not-true _ (c .if1 .taken))
 
 walk-group-split-requires : (t : ℕ) → walk-group-lts.Need-split-requires (
   at-reads.Asked,
   at-reads.Learnt,
-  walk-group-below t,
-  walk-group.Post,
   split-reads.Asked,
   split-reads.Learnt,
   walk-node-below t,
   walk-node.Post,
-) (walk-group-at t) walk-group.Post
-walk-group-split-requires t c κs = c .before .before .before .before .before .before .pre .1 .cellFits
+) (walk-group-at t) walk-group.Post walk-group-Inv-loop walk-group-μ-loop
+walk-group-split-requires t c κs = c .before .before .before .loop .inv .walk .cellFits
 
 walk-group-cast-node : (t : ℕ) → walk-group-lts.Need-cast-node (
   at-reads.Asked,
   at-reads.Learnt,
-  walk-group-below t,
-  walk-group.Post,
   split-reads.Asked,
   split-reads.Learnt,
   walk-node-below t,
   walk-node.Post,
-) (walk-group-at t) walk-group.Post
+) (walk-group-at t) walk-group.Post walk-group-Inv-loop walk-group-μ-loop
 walk-group-cast-node t c = search needs
 
 walk-group-add-node : (t : ℕ) → walk-group-lts.Need-add-node (
   at-reads.Asked,
   at-reads.Learnt,
-  walk-group-below t,
-  walk-group.Post,
   split-reads.Asked,
   split-reads.Learnt,
   walk-node-below t,
   walk-node.Post,
-) (walk-group-at t) walk-group.Post
-walk-group-add-node t c = let a = c .before .before .before .before .before .before .before .args in
-    let p = c .before .before .before .before .before .before .before .pre .1 in
-    let in-row = node-in (a .nodes .now) (a .dots .now) (a .rects .now) (a .room) (a .row .now) (a .found) (childNode (p .group) (5 - a .left)) (a .levels) (p .children (5 - a .left)) (p .stands (5 - a .left) (omega (arith, p .small)) (omega (arith, c .before .before .before .if1 .left))) in
-    omega (arith, p .head, p .small, in-row)
+) (walk-group-at t) walk-group.Post walk-group-Inv-loop walk-group-μ-loop
+walk-group-add-node t c = let a = c .before .before .before .before .before .before .before .before .args in
+    let l = c .before .before .before .before .loop in
+    let w = l .inv .walk in
+    let i = 5 - l .left in
+    let in-row = node-in (a .nodes .now) (a .dots .now) (a .rects .now) (a .room) (l .row) (l .met) (childNode (w .group) i) (a .levels) (w .children i) (w .stands i (omega (arith, w .small)) (omega (arith, c .before .before .before .loop-test .taken))) in
+    omega (arith, w .head, w .small, in-row)
 
 walk-group-walk-node-requires : (t : ℕ) → walk-group-lts.Need-walk-node-requires (
   at-reads.Asked,
   at-reads.Learnt,
-  walk-group-below t,
-  walk-group.Post,
   split-reads.Asked,
   split-reads.Learnt,
   walk-node-below t,
   walk-node.Post,
-) (walk-group-at t) walk-group.Post
-walk-group-walk-node-requires t c κs = let a = c .before .before .before .before .before .before .before .before .args in
-    let some : 1 ≤ a .left = omega (arith, c .before .before .before .before .if1 .left) in
-    (omega (arith, c .before .before .before .before .before .before .before .before .pre .0), group-node (a .query) (a .cell) (a .quadrants) (a .nodes .now) (a .dots .now) (a .rects .now) (a .room) (a .row .now) (a .found) (a .first) (a .levels) (a .left) some (c .before .before .before .before .before .before .before .before .pre .1) _ (c .before .split .ensures))
+) (walk-group-at t) walk-group.Post walk-group-Inv-loop walk-group-μ-loop
+walk-group-walk-node-requires t c κs = let a = c .before .before .before .before .before .before .before .before .before .args in
+    let l = c .before .before .before .before .before .loop in
+    (omega (arith, c .before .before .before .before .before .before .before .before .before .pre .0), group-node (a .query) (a .cell) (a .quadrants) (a .nodes .now) (a .dots .now) (a .rects .now) (a .room) (l .row) (l .met) (a .first) (a .levels) (l .left) (c .before .before .before .before .loop-test .taken) (l .inv .walk) _ (c .before .split .ensures))
 
-walk-group-sub-walk-group-2 : (t : ℕ) → walk-group-lts.Need-sub-walk-group-2 (
+walk-group-loop-less-2 : (t : ℕ) → walk-group-lts.Need-loop-less-2 (
   at-reads.Asked,
   at-reads.Learnt,
-  walk-group-below t,
-  walk-group.Post,
   split-reads.Asked,
   split-reads.Learnt,
   walk-node-below t,
   walk-node.Post,
-) (walk-group-at t) walk-group.Post
-walk-group-sub-walk-group-2 t c = omega arith
+) (walk-group-at t) walk-group.Post walk-group-Inv-loop walk-group-μ-loop
+walk-group-loop-less-2 t c = omega arith
 
-walk-group-walk-group-requires-2 : (t : ℕ) → walk-group-lts.Need-walk-group-requires-2 (
+walk-group-loop-again-2 : (t : ℕ) → walk-group-lts.Need-loop-again-2 (
   at-reads.Asked,
   at-reads.Learnt,
-  walk-group-below t,
-  walk-group.Post,
   split-reads.Asked,
   split-reads.Learnt,
   walk-node-below t,
   walk-node.Post,
-) (walk-group-at t) walk-group.Post
-walk-group-walk-group-requires-2 t c κs = let a = c .before .before .before .before .before .before .before .before .before .before .before .before .args in
-    let some : 1 ≤ a .left = omega (arith, c .before .before .before .before .before .before .before .before .if1 .left) in
-    (omega (arith, c .before .before .before .before .before .before .before .before .before .before .before .before .pre .0), group-rest (a .query) (a .cell) (a .quadrants) (a .nodes .now) (a .dots .now) (a .rects .now) (a .room) (a .row .now) (a .found) (a .first) (a .levels) (a .left) some (c .before .before .before .before .before .before .before .before .before .before .before .before .pre .1) _ (c .before .before .before .before .before .split .ensures) _ _ (c .before .before .before .walk-node .ensures))
+) (walk-group-at t) walk-group.Post walk-group-Inv-loop walk-group-μ-loop
+walk-group-loop-again-2 t c = let a = c .before .before .before .before .before .before .before .before .before .before .before .before .args in
+    let l = c .before .before .before .before .before .before .before .before .loop in
+    let walked = c .before .before .walk-node in
+    ahead-walked (a .query) (a .cell) (a .quadrants) (a .nodes .now) (a .dots .now) (a .rects .now) (a .room) (a .row .now) (a .found) (a .first) (a .levels) (l .row) (l .met) (l .left) (l .inv) (c .before .before .before .before .before .before .before .loop-test .taken)
+    (ap (λ (b : Bool). eqb (5 - l .left) 0 || b) (sym (c .before .before .before .before .before .before .at .ensures)) ∙ not-false _ (c .before .before .before .before .before .if1 .left)) _ (c .before .before .before .before .split .ensures) _ (walked .result) (walked .ensures) (walked .kept .1 .1 .1 .1 .1 .0)
 
-walk-group-same-length-2 : (t : ℕ) → walk-group-lts.Need-same-length-2 (
+walk-group-same-length : (t : ℕ) → walk-group-lts.Need-same-length (
   at-reads.Asked,
   at-reads.Learnt,
-  walk-group-below t,
-  walk-group.Post,
   split-reads.Asked,
   split-reads.Learnt,
   walk-node-below t,
   walk-node.Post,
-) (walk-group-at t) walk-group.Post
-walk-group-same-length-2 t c = c .before .before .walk-group2 .kept .1 .1 .1 .1 .1 .1 .0 ∙ c .before .before .before .before .before .before .walk-node .kept .1 .1 .1 .1 .1 .0
+) (walk-group-at t) walk-group.Post walk-group-Inv-loop walk-group-μ-loop
+walk-group-same-length t c = c .before .loop .inv .same
 
-walk-group-returns-3 : (t : ℕ) → walk-group-lts.Need-returns-3 (
+walk-group-returns : (t : ℕ) → walk-group-lts.Need-returns (
   at-reads.Asked,
   at-reads.Learnt,
-  walk-group-below t,
-  walk-group.Post,
   split-reads.Asked,
   split-reads.Learnt,
   walk-node-below t,
   walk-node.Post,
-) (walk-group-at t) walk-group.Post
-walk-group-returns-3 t c = let a = c .before .before .before .before .before .before .before .before .before .before .before .before .before .before .before .args in
-    let some : 1 ≤ a .left = omega (arith, c .before .before .before .before .before .before .before .before .before .before .before .if1 .left) in
-    group-walked (a .query) (a .cell) (a .quadrants) (a .nodes .now) (a .dots .now) (a .rects .now) (a .room) (a .row .now) (a .found) (a .first) (a .levels) (a .left) some (c .before .before .before .before .before .before .before .before .before .before .before .before .before .before .before .pre .1) _ (c .before .before .before .before .before .before .before .before .split .ensures) _ _ (c .before .before .before .before .before .before .walk-node .ensures) _ _
-    (ap (λ (b : Bool). eqb (5 - a .left) 0 || b) (sym (c .before .before .before .before .before .before .before .before .before .before .at .ensures)) ∙ not-false _ (c .before .before .before .before .before .before .before .before .before .if2 .left)) (c .before .before .walk-group2 .ensures)
+) (walk-group-at t) walk-group.Post walk-group-Inv-loop walk-group-μ-loop
+walk-group-returns t c = let a = c .before .before .before .before .before .args in
+    let l = c .before .loop in
+    ahead-end (a .query) (a .cell) (a .quadrants) (a .nodes .now) (a .dots .now) (a .rects .now) (a .room) (a .row .now) (a .found) (a .first) (a .levels) (l .row) (l .met) (l .left) (l .inv) (omega (arith, c .loop-test .left))
 
 walk-node-node-at-requires : (t : ℕ) → walk-node-lts.Need-node-at-requires (
   node-at-reads.Asked,
@@ -438,8 +406,6 @@ pub +walk-group+walk-node-spec : {M : Type 1} → statement M
 +walk-group+walk-node-spec = close μ-walk-group μ-walk-node (λ t. walk-group-lts.spec (
   at-reads.Asked,
   at-reads.Learnt,
-  walk-group-below t,
-  walk-group.Post,
   split-reads.Asked,
   split-reads.Learnt,
   walk-node-below t,
@@ -447,21 +413,22 @@ pub +walk-group+walk-node-spec : {M : Type 1} → statement M
 )
     (walk-group-at t)
     walk-group.Post
-    (walk-group-returns t)
+    walk-group-Inv-loop
+    walk-group-μ-loop
+    (walk-group-loop-holds t)
     (walk-group-sub-child t)
+    (walk-group-sub-left t)
     (walk-group-at-requires t)
-    (walk-group-sub-walk-group t)
-    (walk-group-walk-group-requires t)
-    (walk-group-same-length t)
-    (walk-group-returns-2 t)
+    (walk-group-loop-less t)
+    (walk-group-loop-again t)
     (walk-group-split-requires t)
     (walk-group-cast-node t)
     (walk-group-add-node t)
     (walk-group-walk-node-requires t)
-    (walk-group-sub-walk-group-2 t)
-    (walk-group-walk-group-requires-2 t)
-    (walk-group-same-length-2 t)
-    (walk-group-returns-3 t))
+    (walk-group-loop-less-2 t)
+    (walk-group-loop-again-2 t)
+    (walk-group-same-length t)
+    (walk-group-returns t))
     λ t. walk-node-lts.spec (
       node-at-reads.Asked,
       node-at-reads.Learnt,

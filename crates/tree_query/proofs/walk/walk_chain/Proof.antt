@@ -32,16 +32,14 @@ loop-holds c =
 cast-p : tie.Need-cast-p Inv-loop μ-loop
 cast-p c = omega arith
 
-dot-at-requires : tie.Need-dot-at-requires Inv-loop μ-loop
-dot-at-requires c κs = place-in c
-
-list-dot-requires : tie.Need-list-dot-requires Inv-loop μ-loop
-list-dot-requires c κs =
-    let i = c .before .before .before .loop .inv .0 in
-    (omega (arith, i .same, c .before .before .before .before .before .before .pre .fits), omega (arith, i .bound, c .before .before .loop-test .taken))
-
 next-at-requires : tie.Need-next-at-requires Inv-loop μ-loop
-next-at-requires c κs = place-in (c .before .before .before .before .before) .0
+next-at-requires c κs = place-in c .0
+
+list-place-requires : tie.Need-list-place-requires Inv-loop μ-loop
+list-place-requires c κs =
+    let i = c .before .before .before .loop .inv .0 in
+    let p = place-in (c .before .before) in
+    (p .0, p .1, omega (arith, i .same, c .before .before .before .before .before .before .pre .fits), omega (arith, i .bound, c .before .before .loop-test .taken))
 
 sub-left : tie.Need-sub-left Inv-loop μ-loop
 sub-left c = omega arith
@@ -51,12 +49,12 @@ loop-less c = omega arith
 
 loop-again : tie.Need-loop-again Inv-loop μ-loop
 loop-again c =
-    let l = c .before .before .before .before .before .before .before in
+    let l = c .before .before .before .before .before .before in
     let a = l .before .before .before .args in
-    let read = c .before .before .before .before .before .dot-at in
-    let listed = c .before .before .before .list-dot in (
+    let next = c .before .before .before .before .next-at in
+    let listed = c .before .before .list-place in (
       rest-turn (a .query) (a .dots .now) (a .rects .now) (a .room) (a .row .now) (a .found .hits) (a .head) (a .count) (l .loop .row) (l .loop .hits) (l .loop .place) (l .loop .left) (l .loop .inv .0)
-          (c .before .before .before .before .before .before .loop-test .taken) (read .result) (read .ensures) _ (listed .result) (c .next-at .result) (listed .ensures .0) (listed .ensures .1) (c .next-at .ensures),
+          (c .before .before .before .before .before .loop-test .taken) _ (listed .result) (next .result) (listed .ensures .0) (listed .ensures .1) (next .ensures),
       search needs,
     )
 
@@ -77,9 +75,8 @@ walk-chain-spec =
     μ-loop
     loop-holds
     cast-p
-    dot-at-requires
-    list-dot-requires
     next-at-requires
+    list-place-requires
     sub-left
     loop-less
     loop-again
