@@ -1,5 +1,5 @@
 -- The words read node by node and place by place: the relation that code is proved with. Laws.Memory shows that it and the layout say the same.
---     Mem, memory  the words as functions of a node's or a place's number: a store into a row is a change of one of them
+--     Mem, read, memory    the words as functions of a node's or a place's number: a store into a row is a change of one of them
 --     firstAt, countAt, idAt, nextAt, rectAt, dotAt        where each word stands in its row
 --     Chained, Represents, FreeGroups      a chain, a tree at a node, the free groups
 --     Represented w x      the world w, read so, has the shape x
@@ -43,8 +43,11 @@ rectAt rects p =
 abbrev pub dotAt : List ℕ → List ℤ → ℕ → Dot
 dotAt dots rects p = record { id = idAt dots p; rect = rectAt rects p }
 
+abbrev pub read : List ℕ → List ℕ → List ℤ → Mem
+read nodes dots rects = record { first = firstAt nodes; count = countAt nodes; dot = dotAt dots rects; next = nextAt dots }
+
 abbrev pub memory : World → Mem
-memory w = record { first = firstAt (w .nodes); count = countAt (w .nodes); dot = dotAt (w .dots) (w .rects); next = nextAt (w .dots) }
+memory w = read (w .nodes) (w .dots) (w .rects)
 
 -- from the link h the places of the chain follow one another, and the last next is e (none, for a whole chain)
 abbrev pub Chained : Mem → ℕ → List Placed → ℕ → Type 0

@@ -17,7 +17,7 @@ use Rattle.model.specs.Sums.{indicator, indicator-same, indicator-other, sumOve
 use Rattle.model.specs.Trees.{Placed, Tree, leaf, childNode, sumDots, atPlace, groupCount, placeCount}
 use Rattle.model.specs.Shapes.{Shape, root}
 use Rattle.model.specs.Layout.{World, Holds}
-use Rattle.model.specs.Memory.{firstAt, countAt, Represents}
+use Rattle.model.specs.Memory.{read, firstAt, countAt, Represents}
 use Rattle.model.specs.Laws.Shapes.{below-no}
 use Rattle.model.specs.Laws.Layout.{holds-settings}
 use Rattle.model.specs.Laws.Memory.{holds-represented}
@@ -28,7 +28,6 @@ use Rattle.tree.specs.Paths.{Children, sub, nodeAt, sumDots-sub, sumNode
 use Rattle.tree.specs.Stores.{Stored}
 use Rattle.tree.specs.Inserts.{reach-children}
 use Rattle.tree.specs.Joins.{holds-stored}
-use Rattle.tree.specs.Readings.{read}
 use Rattle.tree.specs.Routes.{leafFor, chainFor, pathTo, path-reach, path-sub, path-node, Guided, holds-guided, LeadsTo}
 use Rattle.tree.specs.Chains.{Standing, chained-standing}
 

@@ -1,5 +1,4 @@
 -- The rows read as memory: what a store into a row is there.
---     read         the memory that three rows hold
 --     changed-id   a store of what was there
 --     node-stored, next-stored, dot-stored     one law a kind of store
 use mathlib.Core.Path.{_≡_, refl, sym, ap, _∙_}
@@ -9,7 +8,7 @@ use lib.IntN.{ℤ}
 use Rattle.geometry.specs.declared.aabb.AABB.{AABB}
 use Rattle.model.specs.declared.Dot.{Dot}
 use Rattle.model.specs.Sums.{changed, changed-same, changed-other}
-use Rattle.model.specs.Memory.{Mem, firstAt, countAt, idAt, nextAt, rectAt, dotAt}
+use Rattle.model.specs.Memory.{Mem, read, firstAt, countAt, idAt, nextAt, rectAt, dotAt}
 use Rattle.memory.specs.declared.node.Node.{Node}
 use Rattle.memory.specs.Rows.{HasNode, HasPlace, HasRect, setNodeAt, setNextAt, setIdAt, setRectAt}
 use Rattle.memory.specs.Laws.{changed-by, first-set, count-set, next-set, id-set, id-next, next-id, rect-set}
@@ -18,9 +17,6 @@ use Rattle.tree.specs.Stores.{setFirst, setCount, setDot, setNext}
 -- a word that is stored as it was
 pub changed-id : {A : Type 0} (f : ℕ → A) (a : ℕ) → changed f a (f a) ≡ f
 changed-id f a = sym (changed-by f f a (f a) refl (λ k ne. refl))
-
-abbrev pub read : List ℕ → List ℕ → List ℤ → Mem
-read nodes dots rects = record { first = firstAt nodes; count = countAt nodes; dot = dotAt dots rects; next = nextAt dots }
 
 -- a node's two words
 abbrev pub setNode : Mem → ℕ → Node → Mem

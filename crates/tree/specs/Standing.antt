@@ -19,14 +19,13 @@ use Rattle.model.specs.Lists.{All, count, sumOver-joinBelow}
 use Rattle.model.specs.Trees.{Placed, Tree, leaf, branch, childNode, atPlace, placeCount, AllDots, Shallow, size}
 use Rattle.model.specs.Shapes.{Shape, Valid, below}
 use Rattle.model.specs.Layout.{world, branchMark, NodeEntry, treeNodes, freeGroupNodes, nodeEntries, Holds}
-use Rattle.model.specs.Memory.{countAt, Represents, Represented}
+use Rattle.model.specs.Memory.{read, countAt, Represents, Represented}
 use Rattle.model.specs.Laws.Shapes.{below-yes, below-no, once-length, live-and-free, sumOver-map, valid-height}
 use Rattle.model.specs.Laws.Entries.{nodeIs, nodes-once, node-range, node-there}
 use Rattle.model.specs.Laws.Memory.{holds-represented}
 use Rattle.memory.specs.declared.node.Node.{Node}
 use Rattle.memory.specs.Nodes.{nodeAt}
 use Rattle.memory.specs.Rows.{HasNode, HasPlace, HasRect}
-use Rattle.tree.specs.Readings.{read}
 
 abbrev pub InRows : List ℕ → List ℤ → Placed → Type 0
 InRows dots rects d = HasPlace dots (d .place) × HasRect rects (d .place)

@@ -1,6 +1,7 @@
 // The tree below a node: a node's walk hands its group on, and the group's walk hands each child back.
 ghost use Prim.Native.Nat.{_*_, _≤_};
-ghost use Rattle.tree_check.specs.Trees.{memoryOf, TreeReady, TreeScanned, GroupReady, GroupScanned, Sound};
+ghost use Rattle.model.specs.Memory.{read};
+ghost use Rattle.tree_check.specs.Trees.{TreeReady, TreeScanned, GroupReady, GroupScanned, Sound};
 use crate::chain::check_chain;
 use crate::free::group_at;
 use crate::free::is_empty;
@@ -20,7 +21,7 @@ pub fn check_node(
     node: usize,
 ) -> bool
     requires { ⌜ TreeReady (now nodes) (now dots) (now rects) (now marks) places groups × Sound region × (node ≤ 5 * groups) ⌝ }
-    ensures { λ r. ⌜ TreeScanned region (memoryOf (now (nodes .entry)) (now (dots .entry)) (now (rects .entry))) (now (marks .entry)) places groups node (now (marks .exit)) r ⌝ }
+    ensures { λ r. ⌜ TreeScanned region (read (now (nodes .entry)) (now (dots .entry)) (now (rects .entry))) (now (marks .entry)) places groups node (now (marks .exit)) r ⌝ }
 {
     let words = node_at(nodes, node);
     let splits = region.may_split();
@@ -67,7 +68,7 @@ fn check_group(
     left: u32,
 ) -> bool
     requires { ⌜ TreeReady (now nodes) (now dots) (now rects) (now marks) places groups × GroupReady region groups group left ⌝ }
-    ensures { λ r. ⌜ GroupScanned region (memoryOf (now (nodes .entry)) (now (dots .entry)) (now (rects .entry))) (now (marks .entry)) places groups group left (now (marks .exit)) r ⌝ }
+    ensures { λ r. ⌜ GroupScanned region (read (now (nodes .entry)) (now (dots .entry)) (now (rects .entry))) (now (marks .entry)) places groups group left (now (marks .exit)) r ⌝ }
 {
     if left == 0 {
         return true;

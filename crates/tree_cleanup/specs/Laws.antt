@@ -22,7 +22,7 @@ use Rattle.model.specs.Sums.{indicator, indicator-same, sumOver-one, sumBelow, 
 use Rattle.model.specs.Trees.{Tree, leaf, branch, childNode, Shallow, size}
 use Rattle.model.specs.Cleanup.{isZero, busy, allEmpty, freedBy, turned}
 use Rattle.model.specs.Layout.{none, branchMark}
-use Rattle.model.specs.Memory.{firstAt, countAt, nextAt, dotAt, Represents}
+use Rattle.model.specs.Memory.{read, firstAt, countAt, nextAt, dotAt, Represents}
 use Rattle.model.specs.Laws.Cleanup.{zero-is, children-empty}
 use Rattle.memory.specs.declared.node.Node.{Node}
 use Rattle.memory.specs.Nodes.{emptyLeaf}
@@ -30,7 +30,6 @@ use Rattle.memory.specs.Rows.{HasNode, setNodeAt}
 use Rattle.memory.specs.Laws.{first-set, count-set, node-length, changed-by}
 use Rattle.tree.specs.Frames.{nodeCount, tree-frame}
 use Rattle.tree.specs.Collapses.{clean-nodes, Walk, collapse, cleanWords, Was, clean-got}
-use Rattle.tree.specs.Readings.{read}
 use Rattle.tree.specs.Standing.{NodesIn, nodeTotal}
 use Rattle.tree_cleanup.specs.declared.Swept.{Swept}
 use Rattle.tree_cleanup.specs.Walks.{HasGroup, emptyGroup, turnedNodes, walkOf, Fits, Cleaned, NodeWalk, NodeCleaned, KidsWas, cleanKids, GroupWalk, GroupCleaned}

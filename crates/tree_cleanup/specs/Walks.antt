@@ -11,12 +11,11 @@ use lib.Dec.{eqb}
 use Rattle.model.specs.Sums.{indicator, sumOver, sumBelow}
 use Rattle.model.specs.Trees.{Tree, childNode, Shallow, size}
 use Rattle.model.specs.Cleanup.{downFrom, turned}
-use Rattle.model.specs.Memory.{countAt, Represents, FreeGroups}
+use Rattle.model.specs.Memory.{read, countAt, Represents, FreeGroups}
 use Rattle.memory.specs.Nodes.{emptyLeaf}
 use Rattle.memory.specs.Rows.{HasNode, setNodeAt}
 use Rattle.tree.specs.Frames.{nodeCount}
 use Rattle.tree.specs.Collapses.{overGroup, Walk, cleanWords, Was}
-use Rattle.tree.specs.Readings.{read}
 use Rattle.tree.specs.Standing.{NodesIn, nodeTotal}
 use Rattle.tree_cleanup.specs.declared.Swept.{Swept}
 

@@ -16,14 +16,14 @@ use Rattle.model.specs.declared.Dot.{Dot}
 use Rattle.model.specs.Sums.{indicator, indicator-same, sumOver, changed-other, changed-all}
 use Rattle.model.specs.Trees.{Placed, childNode, atPlace}
 use Rattle.model.specs.Insert.{routeDot}
-use Rattle.model.specs.Memory.{Mem, firstAt, countAt, nextAt, rectAt}
+use Rattle.model.specs.Memory.{Mem, read, firstAt, countAt, nextAt, rectAt}
 use Rattle.memory.specs.declared.node.Node.{Node}
 use Rattle.memory.specs.Rows.{HasNode, HasPlace, HasRect, setNodeAt, setNextAt}
 use Rattle.memory.specs.Laws.{node-length, next-length, next-set, id-next, count-set}
 use Rattle.tree.specs.Stores.{setNext}
 use Rattle.tree.specs.Chains.{Standing}
 use Rattle.tree.specs.Splits.{dealWords}
-use Rattle.tree.specs.Readings.{read, setNode, node-stored, next-stored}
+use Rattle.tree.specs.Readings.{setNode, node-stored, next-stored}
 
 pub record Dealable (nodes dots : List ℕ) (rects : List ℤ) (first head count : ℕ) : Type 0 where
   pub group : ℕ

@@ -22,7 +22,7 @@ use Rattle.model.specs.Sums.{sumOver, sumOver-one, sumBelow-term}
 use Rattle.model.specs.Trees.{Placed, Tree, leaf, childNode}
 use Rattle.model.specs.Insert.{Grown, deal, dealt, mustSplit}
 use Rattle.model.specs.Shapes.{Shape, placedIn, grownBy}
-use Rattle.model.specs.Memory.{Mem, firstAt}
+use Rattle.model.specs.Memory.{Mem, read, firstAt}
 use Rattle.model.specs.Laws.Insert.{splitCount, deal-sum}
 use Rattle.tree.specs.declared.find.Leaf.{Leaf}
 use Rattle.tree_insert.specs.declared.split.Reached.{Reached}
@@ -31,7 +31,6 @@ use Rattle.tree.specs.Paths as paths
 use Rattle.tree.specs.Stores.{Stored}
 use Rattle.tree.specs.Splits.{splitTree, splitWords, split-holds}
 use Rattle.tree.specs.Inserts.{Reach, reach-children, sub-put, reach-put, sub-snoc, node-snoc, reach-snoc, Ended, Left, turn-down, turn-split}
-use Rattle.tree.specs.Readings.{read}
 use Rattle.tree_insert.specs.Splitting.{Splittable, stored-splittable}
 
 -- the tree and the free groups that an insert leaves

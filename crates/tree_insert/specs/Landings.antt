@@ -23,7 +23,7 @@ use Rattle.model.specs.Trees.{Placed, Tree, leaf}
 use Rattle.model.specs.Insert.{Grown, mustSplit, insertAt}
 use Rattle.model.specs.Shapes.{Shape, root, headOf, tailOf, placedIn, grownBy, splitsNeeded, inserted}
 use Rattle.model.specs.Layout.{World, world, Holds}
-use Rattle.model.specs.Memory.{Mem, firstAt, countAt, nextAt}
+use Rattle.model.specs.Memory.{Mem, read, firstAt, countAt, nextAt}
 use Rattle.model.specs.Laws.Insert.{splitCount, insert-sum}
 use Rattle.model.specs.Laws.Shapes.{below-no, live-and-free, valid-height, inserted-valid}
 use Rattle.model.specs.Laws.Memory.{holds-represented}
@@ -35,7 +35,7 @@ use Rattle.tree.specs.Paths as paths
 use Rattle.tree.specs.Stores.{Stored, pushWords, push-holds}
 use Rattle.tree.specs.Inserts.{reach-children, Ended}
 use Rattle.tree.specs.Joins.{stored-holds}
-use Rattle.tree.specs.Readings.{read, dot-stored}
+use Rattle.tree.specs.Readings.{dot-stored}
 use Rattle.tree.specs.Routes.{LeadsTo}
 use Rattle.tree_insert.specs.Dealing.{linkWords, linked-read}
 use Rattle.tree.specs.Leaves.{leaf-inside, leaf-count}

@@ -15,7 +15,7 @@ use Rattle.geometry.specs.declared.node_data.NodeData.{NodeData}
 use Rattle.model.specs.Sums.{indicator, indicator-same, sumOver, changed, changed-same, changed-other, byDec}
 use Rattle.model.specs.Trees.{Placed, Tree, leaf, childNode, sumDots, atPlace, groupCount}
 use Rattle.model.specs.Layout.{none, branchMark}
-use Rattle.model.specs.Memory.{Mem, firstAt, countAt}
+use Rattle.model.specs.Memory.{Mem, read, firstAt, countAt}
 use Rattle.model.specs.Laws.Shapes.{below-le}
 use Rattle.memory.specs.declared.node.Node.{Node}
 use Rattle.memory.specs.Nodes.{nodeAt, emptyLeaf}
@@ -26,7 +26,7 @@ use Rattle.tree.specs.Paths.{Children, sub, sumDots-sub, sumNodes-sub}
 use Rattle.tree.specs.Paths as paths
 use Rattle.tree.specs.Stores.{setFirst, setCount, Stored, node-not-free}
 use Rattle.tree.specs.Splits.{takeGroup, dealWords, splitWords}
-use Rattle.tree.specs.Readings.{changed-id, read, setNode, node-stored}
+use Rattle.tree.specs.Readings.{changed-id, setNode, node-stored}
 use Rattle.tree.specs.Chains.{Standing}
 use Rattle.tree.specs.Leaves.{group-inside, leaf-inside, leaf-count, leaf-standing}
 use Rattle.tree_insert.specs.Dealing.{Dealable, Dealt}

@@ -22,9 +22,8 @@ use Rattle.model.specs.Lists.{All}
 use Rattle.model.specs.Dots.{isHit}
 use Rattle.model.specs.Trees.{Placed}
 use Rattle.model.specs.Layout.{none}
-use Rattle.model.specs.Memory.{nextAt, dotAt, Chained}
+use Rattle.model.specs.Memory.{read, nextAt, dotAt, Chained}
 use Rattle.memory.specs.Rows.{HasPlace, HasRect}
-use Rattle.tree.specs.Readings.{read}
 use Rattle.tree.specs.Standing.{InRows}
 use Rattle.tree_query.specs.declared.walk.Found.{Found}
 use Rattle.tree_query.specs.Rows.{kept, keptAll, kept-length}

@@ -27,9 +27,8 @@ use Rattle.model.specs.Dots.{isHit}
 use Rattle.model.specs.Trees.{Placed, Tree, leaf, branch, childNode, Shallow, size}
 use Rattle.model.specs.Query.{hits, opened}
 use Rattle.model.specs.Layout.{none, branchMark}
-use Rattle.model.specs.Memory.{firstAt, countAt, nextAt, Chained}
+use Rattle.model.specs.Memory.{read, firstAt, countAt, nextAt, Chained}
 use Rattle.memory.specs.Rows.{HasNode}
-use Rattle.tree.specs.Readings.{read}
 use Rattle.tree.specs.Standing.{nodeTotal, Stands}
 use Rattle.tree_query.specs.declared.walk.Found.{Found}
 use Rattle.tree_query.specs.Rows.{keptAll, kept-append, keptAll-length}

@@ -21,11 +21,10 @@ use Rattle.model.specs.Trees.{Tree, leaf, branch, childNode}
 use Rattle.model.specs.Query.{leavesOf}
 use Rattle.model.specs.Shapes.{Shape, root, leaves, leafNumber}
 use Rattle.model.specs.Layout.{world, cleared}
-use Rattle.model.specs.Memory.{Represents}
+use Rattle.model.specs.Memory.{read, Represents}
 use Rattle.model.specs.Calls.{tooMany, answered, exit, leavesRule}
 use Rattle.model.specs.Laws.Query.{leaves-length}
 use Rattle.model.specs.Laws.Layout.{holds-settings}
-use Rattle.tree.specs.Readings.{read}
 use Rattle.tree.specs.Operations.{HasTree}
 use Rattle.tree.specs.Standing.{Stands, root-stands, root-total}
 use Rattle.tree_query.specs.Rows.{keptAll, kept-whole}

@@ -18,8 +18,7 @@ use Rattle.model.specs.Dots.{isHit}
 use Rattle.model.specs.Trees.{Placed, Tree, childNode, size}
 use Rattle.model.specs.Query.{hits, opened}
 use Rattle.model.specs.Layout.{none}
-use Rattle.model.specs.Memory.{Chained}
-use Rattle.tree.specs.Readings.{read}
+use Rattle.model.specs.Memory.{read, Chained}
 use Rattle.tree.specs.Standing.{InRows, nodeTotal, Stands}
 use Rattle.tree_query.specs.declared.walk.Found.{Found}
 use Rattle.tree_query.specs.Rows.{kept, keptAll}

@@ -9,6 +9,7 @@ ghost use Rattle.tree_query.specs.Walks.{reachesRect, hitsAfter, rowWith
 use geometry::aabb::AABB;
 use geometry::centered_aabb::CenteredAABB;
 use geometry::quadrants::Quadrants;
+use memory::node::Node;
 use memory::words::dot_at;
 use memory::words::next_at;
 use memory::words::node_at;
@@ -82,7 +83,7 @@ fn list_place(
     list_dot(query, dot_at(dots, rects, place), row, room, hits)
 }
 
-// Lists the dots of a chain that the query meets.
+// Lists the dots of a leaf's chain that the query meets.
 fn walk_chain(
     query: AABB,
     dots: &[u32],
@@ -90,16 +91,15 @@ fn walk_chain(
     row: &mut [u32],
     room: usize,
     found: Found,
-    head: u32,
-    count: u32,
+    leaf: Node,
 ) -> Found
-    requires { ⌜ ChainWalk (now dots) (now rects) room (now row) found head count ⌝ }
-    ensures { λ r. ⌜ ChainWalked query (now (dots .entry)) (now (rects .entry)) room (now (row .entry)) found head count (now (row .exit)) r ⌝ }
+    requires { ⌜ ChainWalk (now dots) (now rects) room (now row) found (leaf .first) (leaf .count) ⌝ }
+    ensures { λ r. ⌜ ChainWalked query (now (dots .entry)) (now (rects .entry)) room (now (row .entry)) found (leaf .first) (leaf .count) (now (row .exit)) r ⌝ }
 {
     let opened = found.opened;
     let mut hits = found.hits;
-    let mut place = head;
-    let mut left = count;
+    let mut place = leaf.first;
+    let mut left = leaf.count;
     while left > 0 {
         let p = place as usize;
         place = next_at(dots, p);
@@ -131,16 +131,7 @@ pub fn walk_node(
         opened: found.opened + 1,
     };
     if !words.is_branch() {
-        return walk_chain(
-            query,
-            dots,
-            rects,
-            row,
-            room,
-            opened,
-            words.first,
-            words.count,
-        );
+        return walk_chain(query, dots, rects, row, room, opened, words);
     }
     let quadrants = cell.explore_quadrants(query);
     let first = words.first as usize;
@@ -184,18 +175,16 @@ fn walk_group(
         if !((child == 0) | quadrants.at(child)) {
             continue;
         }
-        let below = cell.split(child);
-        let node = first + child as usize;
         met = walk_node(
             query,
-            below,
+            cell.split(child),
             nodes,
             dots,
             rects,
             row,
             room,
             met,
-            node,
+            first + child as usize,
             levels,
         );
     }

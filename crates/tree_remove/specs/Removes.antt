@@ -22,7 +22,7 @@ use Rattle.model.specs.Trees.{Placed, Tree, leaf, atPlace, size}
 use Rattle.model.specs.Remove.{firstHas, firstOut, firstPlace, removeAt, removePlace}
 use Rattle.model.specs.Shapes.{Shape, root, foundBy, removed}
 use Rattle.model.specs.Layout.{World, world, none, Holds}
-use Rattle.model.specs.Memory.{Mem, firstAt, countAt, nextAt, memory}
+use Rattle.model.specs.Memory.{Mem, read, firstAt, countAt, nextAt, memory}
 use Rattle.model.specs.Calls.{answered, exit, carriedOut, removeRule}
 use Rattle.model.specs.Laws.Shapes.{removed-valid}
 use Rattle.model.specs.Laws.Remove.{found-gone}
@@ -39,7 +39,7 @@ use Rattle.tree.specs.Paths as paths
 use Rattle.tree.specs.Stores.{setCount, setNext, Stored}
 use Rattle.tree.specs.Removals.{freeWords, popWords, pop-holds, dropWords, drop-holds}
 use Rattle.tree.specs.Joins.{holds-stored, stored-holds}
-use Rattle.tree.specs.Readings.{changed-id, read, setNode, node-stored, next-stored, dot-stored}
+use Rattle.tree.specs.Readings.{changed-id, setNode, node-stored, next-stored, dot-stored}
 use Rattle.tree.specs.Routes.{leafFor, chainFor, pathTo, path-sub, path-node, says-path, place-path, remove-path, LeadsTo}
 use Rattle.tree.specs.Chains.{Standing}
 use Rattle.tree.specs.Leaves.{way-children, here-sum, here-place, here-count, here-standing, here-inside, leads-leaf}

@@ -130,7 +130,7 @@ walk-group-split-requires : (t : ℕ) → walk-group-lts.Need-split-requires (
 ) (walk-group-at t) walk-group.Post walk-group-Inv-loop walk-group-μ-loop
 walk-group-split-requires t c κs = c .before .before .before .loop .inv .walk .cellFits
 
-walk-group-cast-node : (t : ℕ) → walk-group-lts.Need-cast-node (
+walk-group-cast-walk-node : (t : ℕ) → walk-group-lts.Need-cast-walk-node (
   at-reads.Asked,
   at-reads.Learnt,
   split-reads.Asked,
@@ -138,9 +138,9 @@ walk-group-cast-node : (t : ℕ) → walk-group-lts.Need-cast-node (
   walk-node-below t,
   walk-node.Post,
 ) (walk-group-at t) walk-group.Post walk-group-Inv-loop walk-group-μ-loop
-walk-group-cast-node t c = search needs
+walk-group-cast-walk-node t c = search needs
 
-walk-group-add-node : (t : ℕ) → walk-group-lts.Need-add-node (
+walk-group-add-walk-node : (t : ℕ) → walk-group-lts.Need-add-walk-node (
   at-reads.Asked,
   at-reads.Learnt,
   split-reads.Asked,
@@ -148,11 +148,11 @@ walk-group-add-node : (t : ℕ) → walk-group-lts.Need-add-node (
   walk-node-below t,
   walk-node.Post,
 ) (walk-group-at t) walk-group.Post walk-group-Inv-loop walk-group-μ-loop
-walk-group-add-node t c = let a = c .before .before .before .before .before .before .before .before .args in
-    let l = c .before .before .before .before .loop in
+walk-group-add-walk-node t c = let a = c .before .before .before .before .before .before .before .before .before .args in
+    let l = c .before .before .before .before .before .loop in
     let w = l .inv .walk in
     let i = 5 - l .left in
-    let in-row = node-in (a .nodes .now) (a .dots .now) (a .rects .now) (a .room) (l .row) (l .met) (childNode (w .group) i) (a .levels) (w .children i) (w .stands i (omega (arith, w .small)) (omega (arith, c .before .before .before .loop-test .taken))) in
+    let in-row = node-in (a .nodes .now) (a .dots .now) (a .rects .now) (a .room) (l .row) (l .met) (childNode (w .group) i) (a .levels) (w .children i) (w .stands i (omega (arith, w .small)) (omega (arith, c .before .before .before .before .loop-test .taken))) in
     omega (arith, w .head, w .small, in-row)
 
 walk-group-walk-node-requires : (t : ℕ) → walk-group-lts.Need-walk-node-requires (
@@ -422,8 +422,8 @@ pub +walk-group+walk-node-spec : {M : Type 1} → statement M
     (walk-group-loop-less t)
     (walk-group-loop-again t)
     (walk-group-split-requires t)
-    (walk-group-cast-node t)
-    (walk-group-add-node t)
+    (walk-group-cast-walk-node t)
+    (walk-group-add-walk-node t)
     (walk-group-walk-node-requires t)
     (walk-group-loop-less-2 t)
     (walk-group-loop-again-2 t)

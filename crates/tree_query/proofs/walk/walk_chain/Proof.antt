@@ -8,11 +8,11 @@ use Rattle.tree_query.proofs.walk.walk_chain.Statement.{statement}
 use Rattle.tree_query.proofs.walk.walk_chain.Tie as tie
 
 abbrev Inv-loop : tie.InvT-loop
-Inv-loop query dots rects row₀ room head count opened hits₀ place₀ left₀ row hits place left =
-    Rest query dots rects room row₀ hits₀ head count row hits place left × (place < 2 ^ 32)
+Inv-loop query dots rects row₀ room opened hits₀ place₀ left₀ row hits place left =
+    Rest query dots rects room row₀ hits₀ place₀ left₀ row hits place left × (place < 2 ^ 32)
 
 abbrev μ-loop : tie.MeasureT-loop
-μ-loop query dots rects row₀ room head count opened hits₀ place₀ left₀ row hits place left = left
+μ-loop query dots rects row₀ room opened hits₀ place₀ left₀ row hits place left = left
 
 -- the place that a turn reads is one of the chain's
 place-in : (c : tie.In-loop Inv-loop μ-loop) → HasPlace (c .before .before .before .before .args .dots .now) (c .before .loop .place) × HasRect (c .before .before .before .before .args .rects .now) (c .before .loop .place)
@@ -20,14 +20,14 @@ place-in c =
     let s = c .before .before .before .before in
     let a = s .args in
     let p = s .pre in
-    rest-place (a .query) (a .dots .now) (a .rects .now) (a .room) (a .row .now) (a .found .hits) (a .head) (a .count) (c .before .loop .row) (c .before .loop .hits) (c .before .loop .place) (c .before .loop .left) (c .before .loop .inv .0)
+    rest-place (a .query) (a .dots .now) (a .rects .now) (a .room) (a .row .now) (a .found .hits) (a .leaf .first) (a .leaf .count) (c .before .loop .row) (c .before .loop .hits) (c .before .loop .place) (c .before .loop .left) (c .before .loop .inv .0)
     (p .chain) (p .stands) (p .long) (p .dotsIn) (c .loop-test .taken)
 
 loop-holds : tie.Need-loop-holds Inv-loop μ-loop
 loop-holds c =
     let s = c .before .before in
     let a = s .args in
-    (rest-start (a .query) (a .dots .now) (a .rects .now) (a .room) (a .row .now) (a .found .hits) (a .head) (a .count) (s .pre .counts .hits), search needs)
+    (rest-start (a .query) (a .dots .now) (a .rects .now) (a .room) (a .row .now) (a .found .hits) (a .leaf .first) (a .leaf .count) (s .pre .counts .hits), search needs)
 
 cast-p : tie.Need-cast-p Inv-loop μ-loop
 cast-p c = omega arith
@@ -53,7 +53,7 @@ loop-again c =
     let a = l .before .before .before .args in
     let next = c .before .before .before .before .next-at in
     let listed = c .before .before .list-place in (
-      rest-turn (a .query) (a .dots .now) (a .rects .now) (a .room) (a .row .now) (a .found .hits) (a .head) (a .count) (l .loop .row) (l .loop .hits) (l .loop .place) (l .loop .left) (l .loop .inv .0)
+      rest-turn (a .query) (a .dots .now) (a .rects .now) (a .room) (a .row .now) (a .found .hits) (a .leaf .first) (a .leaf .count) (l .loop .row) (l .loop .hits) (l .loop .place) (l .loop .left) (l .loop .inv .0)
           (c .before .before .before .before .before .loop-test .taken) _ (listed .result) (next .result) (listed .ensures .0) (listed .ensures .1) (next .ensures),
       search needs,
     )
@@ -65,7 +65,7 @@ returns : tie.Need-returns Inv-loop μ-loop
 returns c =
     let s = c .before .before .before .before in
     let a = s .args in
-    rest-end (a .query) (a .dots .now) (a .rects .now) (a .room) (a .row .now) (a .found) (a .head) (a .count) (c .before .loop .row) (c .before .loop .hits) (c .before .loop .place) (c .before .loop .left) (c .before .loop .inv .0) (omega arith)
+    rest-end (a .query) (a .dots .now) (a .rects .now) (a .room) (a .row .now) (a .found) (a .leaf .first) (a .leaf .count) (c .before .loop .row) (c .before .loop .hits) (c .before .loop .place) (c .before .loop .left) (c .before .loop .inv .0) (omega arith)
 
 pub walk-chain-spec : {M : Type 1} → statement M
 walk-chain-spec =
