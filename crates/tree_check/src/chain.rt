@@ -6,21 +6,20 @@ use memory::node::Node;
 use memory::words::dot_at;
 use memory::words::next_at;
 
-// Whether `count` dots that pass the gate are chained from `head`, at places of which none was marked; marks those that it meets.
+// Whether as many dots as the chain counts, each of which passes the gate, are chained from its first, at places of which none was marked; marks those that it meets.
 pub fn check_chain(
     dots: &[u32],
     rects: &[i32],
     marks: &mut [u8],
     places: usize,
     gate: Gate,
-    head: u32,
-    count: u32,
+    chain: Node,
 ) -> bool
     requires { ⌜ ChainReady (now dots) (now rects) (now marks) places ⌝ }
-    ensures { λ r. ⌜ ChainScanned (passes gate) (placeMemory (now (dots .entry)) (now (rects .entry))) (now (marks .entry)) places head count (now (marks .exit)) r ⌝ }
+    ensures { λ r. ⌜ ChainScanned (passes gate) (placeMemory (now (dots .entry)) (now (rects .entry))) (now (marks .entry)) places (chain .first) (chain .count) (now (marks .exit)) r ⌝ }
 {
-    let mut link = head;
-    let mut left = count;
+    let mut link = chain.first;
+    let mut left = chain.count;
     while left > 0 {
         let place = link as usize;
         if place >= places {

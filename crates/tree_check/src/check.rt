@@ -12,6 +12,7 @@ use crate::region::Region;
 use crate::tree::check_node;
 use memory::lengths::lengths_fit;
 use memory::marks::clear_marks;
+use memory::node::Node;
 use model::State;
 
 // Whether the memory, whose marks are 0, is a tree; leaves marks behind.
@@ -32,16 +33,12 @@ fn is_tree(state: State, nodes: &[u32], dots: &[u32], rects: &[i32], marks: &mut
     if !check_free(nodes, marks, places, groups, state.free_group, groups) {
         return false;
     }
-    let free = (places - live) as u32;
-    if !check_chain(
-        dots,
-        rects,
-        marks,
-        places,
-        Gate::Free,
-        state.free_place,
-        free,
-    ) {
+    let count = (places - live) as u32;
+    let free = Node {
+        first: state.free_place,
+        count,
+    };
+    if !check_chain(dots, rects, marks, places, Gate::Free, free) {
         return false;
     }
     all_marked(marks)

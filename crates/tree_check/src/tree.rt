@@ -37,25 +37,17 @@ pub fn check_node(
             return false;
         }
         marks[places + group] = 1;
-        check_group(nodes, dots, rects, marks, places, groups, region, group, 5)
+        check_group(nodes, dots, rects, marks, places, groups, region, group)
     } else {
         let settings = region.settings;
         if splits & (words.count > settings.leaf_limit) {
             return false;
         }
-        check_chain(
-            dots,
-            rects,
-            marks,
-            places,
-            Gate::Leaf(region),
-            words.first,
-            words.count,
-        )
+        check_chain(dots, rects, marks, places, Gate::Leaf(region), words)
     }
 }
 
-// The same of the first `left` children of a group, whose parent stands in the region. An empty leaf has nothing to check.
+// The same of the children of a group, whose parent stands in the region, from the last. An empty leaf has nothing to check.
 fn check_group(
     nodes: &[u32],
     dots: &[u32],
@@ -65,43 +57,21 @@ fn check_group(
     groups: usize,
     region: Region,
     group: usize,
-    left: u32,
 ) -> bool
-    requires { ⌜ TreeReady (now nodes) (now dots) (now rects) (now marks) places groups × GroupReady region groups group left ⌝ }
-    ensures { λ r. ⌜ GroupScanned region (read (now (nodes .entry)) (now (dots .entry)) (now (rects .entry))) (now (marks .entry)) places groups group left (now (marks .exit)) r ⌝ }
+    requires { ⌜ TreeReady (now nodes) (now dots) (now rects) (now marks) places groups × GroupReady region groups group 5 ⌝ }
+    ensures { λ r. ⌜ GroupScanned region (read (now (nodes .entry)) (now (dots .entry)) (now (rects .entry))) (now (marks .entry)) places groups group 5 (now (marks .exit)) r ⌝ }
 {
-    if left == 0 {
-        return true;
+    let mut left = 5u32;
+    while left > 0 {
+        left -= 1;
+        let node = 1 + 5 * group + (left as usize);
+        if is_empty(nodes, node) {
+            continue;
+        }
+        let below = region.below(left);
+        if !check_node(nodes, dots, rects, marks, places, groups, below, node) {
+            return false;
+        }
     }
-    let child = left - 1;
-    let node = 1 + 5 * group + (child as usize);
-    if is_empty(nodes, node) {
-        return check_group(
-            nodes,
-            dots,
-            rects,
-            marks,
-            places,
-            groups,
-            region,
-            group,
-            child,
-        );
-    }
-    let below = region.below(child);
-    if check_node(nodes, dots, rects, marks, places, groups, below, node) {
-        check_group(
-            nodes,
-            dots,
-            rects,
-            marks,
-            places,
-            groups,
-            region,
-            group,
-            child,
-        )
-    } else {
-        false
-    }
+    true
 }

@@ -9,22 +9,20 @@ use Rattle.tree_check.specs.Regions.{passes}
 use Rattle.tree_check.specs.Chains.{placeMemory, ChainLeft}
 use Rattle.tree_check.specs.Laws.Chains.{left-start, stop-far, stop-seen, stop-bad, left-turn, left-stop, left-end}
 use borrow.Author.Needs.{needs}
-use mathlib.Core.Path.{ap, sym, _∙_}
-use Prim.Native.Nat.{_<_}
 use Rattle.tree_check.proofs.chain.check_chain.Statement.{statement}
 use Rattle.tree_check.proofs.chain.check_chain.Tie as tie
 
 abbrev Inv-loop : tie.InvT-loop
-Inv-loop dots rects marks₀ places gate head count link₀ left₀ marks link left =
-    (link < 4294967296) × ChainLeft (passes gate) (placeMemory dots rects) marks₀ places head count marks link left
+Inv-loop dots rects marks₀ places gate link₀ left₀ marks link left =
+    (link < 4294967296) × ChainLeft (passes gate) (placeMemory dots rects) marks₀ places link₀ left₀ marks link left
 
 abbrev μ-loop : tie.MeasureT-loop
-μ-loop dots rects marks₀ places gate head count link₀ left₀ marks link left = left
+μ-loop dots rects marks₀ places gate link₀ left₀ marks link left = left
 
 loop-holds : tie.Need-loop-holds Inv-loop μ-loop
 loop-holds c =
     let c2 = c .before .before in
-    (omega (arith, c2 .fits .head), left-start _ _ _ _ _ _ (c2 .pre .bits))
+    (search needs, left-start _ _ _ _ _ _ (c2 .pre .bits))
 
 cast-place : tie.Need-cast-place Inv-loop μ-loop
 cast-place c = omega (arith, c .before .loop .inv .0)

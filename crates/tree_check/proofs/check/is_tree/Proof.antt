@@ -55,8 +55,8 @@ returns-3 c =
     let tree = tree-yes (c10 .root .ensures) (c8 .check-node .result) (not-false _ (c5 .if2 .left)) (c8 .check-node .ensures) in
     no-groups _ _ _ _ _ _ _ (c16 .pre) _ tree _ (free-no _ _ _ _ _ _ _ (c3 .check-free .result) (not-true _ (c .if3 .taken)) (c3 .check-free .ensures))
 
-cast-free : tie.Need-cast-free
-cast-free c =
+cast-count : tie.Need-cast-count
+cast-count c =
     omega (arith, c .before .before .before .before .before .before .before .before .before .before .before .before .before .before .before .before .pre .ready .placesFit)
 
 check-chain-requires : tie.Need-check-chain-requires
@@ -117,7 +117,7 @@ is-tree-spec =
     check-free-requires
     same-length-2
     returns-3
-    cast-free
+    cast-count
     check-chain-requires
     same-length-3
     returns-4

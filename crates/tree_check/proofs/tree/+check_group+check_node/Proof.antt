@@ -1,7 +1,8 @@
 -- The node's walk hands its group on, and the group's walk hands each child back. Each way is a law of Laws.Trees and Laws.Groups.
--- The measure of a node is seven times the levels that are left below it; of a group, that of its parent's children, and the children that are left.
+-- The measure of a node is twice the levels that are left below it; of a group, one more than that of its children. The loop's invariant: what is left to check
+-- leads to the whole (`Ahead`). The children that are left fall.
 use Prim.Native.Nat.{ℕ, _<_, _≤_, _+_, _-_, _*_}
-use mathlib.Core.Path.{_≡_, ap, sym, _∙_, subst}
+use mathlib.Core.Path.{_≡_, refl, ap, sym, _∙_, subst}
 use mathlib.Core.Bool.{false, _&&_}
 use native.Mathlib.Omega.{arith}
 use lib.Dec.{ltb}
@@ -13,8 +14,8 @@ use Rattle.memory.specs.declared.node.Node.{Node}
 use Rattle.tree_check.specs.Trees.{Sound, MaySplit}
 use Rattle.tree_check.specs.Chains.{placeMemory, ChainScanned}
 use Rattle.tree_check.specs.Laws.Regions.{levels, sound-below, levels-below, shallow-depth}
-use Rattle.tree_check.specs.Laws.Trees.{inLeaf, chain-ready, ready-again, empty-found, leaf-over, leaf-scanned, no-split, no-group, seen-group, group-ready, branch-scanned, branch-count, leaf-count, group-read}
-use Rattle.tree_check.specs.Laws.Groups.{no-children, child-bad, child-scanned}
+use Rattle.tree_check.specs.Laws.Trees.{inLeaf, chain-ready, empty-found, leaf-over, leaf-scanned, no-split, no-group, seen-group, group-ready, branch-scanned, branch-count, leaf-count, group-read}
+use Rattle.tree_check.specs.Laws.Groups.{Ahead, ahead-start, ahead-next, ahead-bad, ahead-end}
 use Rattle.tree_check.specs.Laws.Checks.{tree-yes, tree-no}
 use borrow.Author.Needs.{needs}
 use borrow.Fn.Kinds.{In}
@@ -36,10 +37,10 @@ use Rattle.tree_check.proofs.tree.+check_group+check_node.{statement}
 use Rattle.tree_check.proofs.tree.+check_group+check_node.Tie.{close}
 
 abbrev μ-check-group : Measures 4 check-group-kinds.ps ℕ
-μ-check-group κs a = 7 * (levels (a .1 .1 .1 .1 .1 .1 .0) - 1) + 1 + a .1 .1 .1 .1 .1 .1 .1 .1 .0
+μ-check-group κs a = 2 * (levels (a .1 .1 .1 .1 .1 .1 .0) - 1) + 1
 
 abbrev μ-check-node : Measures 4 check-node-kinds.ps ℕ
-μ-check-node κs a = 7 * levels (a .1 .1 .1 .1 .1 .1 .0)
+μ-check-node κs a = 2 * levels (a .1 .1 .1 .1 .1 .1 .0)
 
 abbrev check-group-at : ℕ → In 4 check-group-kinds.ps
 check-group-at t =
@@ -59,115 +60,105 @@ check-node-below t =
 
 -- what each member's calls ask and give
 abbrev group-calls : ℕ → check-group-lts.Claims
-group-calls t = (is-empty-reads.Asked, is-empty-reads.Learnt, check-group-below t, check-group.Post, below-reads.Asked, below-reads.Learnt, check-node-below t, check-node.Post)
+group-calls t = (is-empty-reads.Asked, is-empty-reads.Learnt, below-reads.Asked, below-reads.Learnt, check-node-below t, check-node.Post)
 
 abbrev node-calls : ℕ → check-node-lts.Claims
 node-calls t = (node-at-reads.Asked, node-at-reads.Learnt, may-split-reads.Asked, may-split-reads.Learnt, is-branch-reads.Asked, is-branch-reads.Learnt, group-at-reads.Asked, group-at-reads.Learnt, check-group-below t, check-group.Post, check-chain-reads.Asked, check-chain-reads.Learnt)
 
-check-group-returns : (t : ℕ) → check-group-lts.Need-returns (group-calls t) (check-group-at t) check-group.Post
-check-group-returns t c = no-children _ _ _ _ _ _ _ (c .before .before .before .before .pre .1 .0 .markReady) (c .if1 .taken)
+abbrev Inv-loop : check-group-lts.InvT-loop
+Inv-loop nodes dots rects marks₀ places groups region group left₀ marks left = Ahead region nodes dots rects places groups group marks₀ marks left
 
-check-group-sub-child : (t : ℕ) → check-group-lts.Need-sub-child (group-calls t) (check-group-at t) check-group.Post
-check-group-sub-child t c = omega (arith, c .if1 .left)
+abbrev μ-loop : check-group-lts.MeasureT-loop
+μ-loop nodes dots rects marks₀ places groups region group left₀ marks left = left
 
-check-group-mul-node : (t : ℕ) → check-group-lts.Need-mul-node (group-calls t) (check-group-at t) check-group.Post
+check-group-loop-holds : (t : ℕ) → check-group-lts.Need-loop-holds (group-calls t) (check-group-at t) check-group.Post Inv-loop μ-loop
+check-group-loop-holds t c = ahead-start _ _ _ _ _ _ _ _ (c .before .before .before .pre .1 .0)
+
+check-group-sub-left : (t : ℕ) → check-group-lts.Need-sub-left (group-calls t) (check-group-at t) check-group.Post Inv-loop μ-loop
+check-group-sub-left t c = omega (arith, c .loop-test .taken)
+
+check-group-mul-node : (t : ℕ) → check-group-lts.Need-mul-node (group-calls t) (check-group-at t) check-group.Post Inv-loop μ-loop
 check-group-mul-node t c =
-    let c4 = c .before .before .before .before in
-    omega (arith, c4 .pre .1 .0 .groupsFit, c4 .pre .1 .1 .within)
+    let c5 = c .before .before .before .before .before in
+    omega (arith, c5 .pre .1 .0 .groupsFit, c5 .pre .1 .1 .within)
 
-check-group-add-node : (t : ℕ) → check-group-lts.Need-add-node (group-calls t) (check-group-at t) check-group.Post
+check-group-add-node : (t : ℕ) → check-group-lts.Need-add-node (group-calls t) (check-group-at t) check-group.Post Inv-loop μ-loop
 check-group-add-node t c =
-    let c4 = c .before .before .before .before in
-    omega (arith, c4 .pre .1 .0 .groupsFit, c4 .pre .1 .1 .within)
+    let c5 = c .before .before .before .before .before in
+    omega (arith, c5 .pre .1 .0 .groupsFit, c5 .pre .1 .1 .within)
 
-check-group-cast-node : (t : ℕ) → check-group-lts.Need-cast-node (group-calls t) (check-group-at t) check-group.Post
-check-group-cast-node t c = omega (arith, c .before .before .before .before .pre .1 .1 .five)
+check-group-cast-node : (t : ℕ) → check-group-lts.Need-cast-node (group-calls t) (check-group-at t) check-group.Post Inv-loop μ-loop
+check-group-cast-node t c = omega (arith, c .before .loop .inv .five)
 
-check-group-add-node-2 : (t : ℕ) → check-group-lts.Need-add-node-2 (group-calls t) (check-group-at t) check-group.Post
+check-group-add-node-2 : (t : ℕ) → check-group-lts.Need-add-node-2 (group-calls t) (check-group-at t) check-group.Post Inv-loop μ-loop
 check-group-add-node-2 t c =
-    let c4 = c .before .before .before .before in
-    omega (arith, c4 .pre .1 .0 .groupsFit, c4 .pre .1 .1 .within, c4 .pre .1 .1 .five)
+    let c5 = c .before .before .before .before .before in
+    omega (arith, c5 .pre .1 .0 .groupsFit, c5 .pre .1 .1 .within, c .before .loop .inv .five)
 
-check-group-is-empty-requires : (t : ℕ) → check-group-lts.Need-is-empty-requires (group-calls t) (check-group-at t) check-group.Post
+check-group-is-empty-requires : (t : ℕ) → check-group-lts.Need-is-empty-requires (group-calls t) (check-group-at t) check-group.Post Inv-loop μ-loop
 check-group-is-empty-requires t c κs =
-    let c4 = c .before .before .before .before in
-    omega (arith, c4 .pre .1 .0 .nodeRoom, c4 .pre .1 .1 .within, c4 .pre .1 .1 .five, c .if1 .left)
+    let c5 = c .before .before .before .before .before in
+    omega (arith, c5 .pre .1 .0 .nodeRoom, c5 .pre .1 .1 .within, c .before .loop .inv .five, c .loop-test .taken)
 
-check-group-check-group-requires : (t : ℕ) → check-group-lts.Need-check-group-requires (group-calls t) (check-group-at t) check-group.Post
-check-group-check-group-requires t c κs =
-    let c3 = c .before .before .before in
-    let c7 = c3 .before .before .before .before in
-    let given = c7 .pre .1 .1 in (
-      omega (arith, c7 .pre .0, c3 .if1 .left),
-      (c7 .pre .1 .0, record { sound = given .sound; splits = given .splits; within = given .within; five = omega (arith, given .five) }),
-    )
+check-group-loop-less : (t : ℕ) → check-group-lts.Need-loop-less (group-calls t) (check-group-at t) check-group.Post Inv-loop μ-loop
+check-group-loop-less t c = omega (arith, c .before .before .loop-test .taken)
 
-check-group-same-length : (t : ℕ) → check-group-lts.Need-same-length (group-calls t) (check-group-at t) check-group.Post
-check-group-same-length t c = c .before .before .check-group .kept .1 .1 .1 .0
+check-group-loop-again : (t : ℕ) → check-group-lts.Need-loop-again (group-calls t) (check-group-at t) check-group.Post Inv-loop μ-loop
+check-group-loop-again t c =
+    let c1 = c .before in
+    let c2 = c1 .before in
+    let l = c2 .before .loop in
+    let found = empty-found _ _ _ _ _ _ _ _ (l .inv .ready) (sym (c1 .is-empty .ensures) ∙ c .if1 .taken) in
+    ahead-next _ _ _ _ _ _ _ _ _ _ (l .inv) (λ e. absurd (omega (arith, c2 .loop-test .taken, e))) _ found refl
 
-check-group-returns-2 : (t : ℕ) → check-group-lts.Need-returns-2 (group-calls t) (check-group-at t) check-group.Post
-check-group-returns-2 t c =
-    let c2 = c .before .before in
-    let c4 = c2 .before .before in
-    let c5 = c4 .before in
-    let c6 = c5 .before in
-    let c10 = c6 .before .before .before .before in
-    let found = empty-found _ _ _ _ _ _ _ _ (c10 .pre .1 .0) (sym (c5 .is-empty .ensures) ∙ c4 .if2 .taken) in
-    child-scanned _ _ _ _ _ _ _ (c6 .if1 .left) _ found (c2 .check-group .result) _ (c2 .check-group .ensures)
-
-check-group-below-requires : (t : ℕ) → check-group-lts.Need-below-requires (group-calls t) (check-group-at t) check-group.Post
+check-group-below-requires : (t : ℕ) → check-group-lts.Need-below-requires (group-calls t) (check-group-at t) check-group.Post Inv-loop μ-loop
 check-group-below-requires t c κs =
-    let given = c .before .before .before .before .before .before .pre .1 .1 in (given .sound .cell, shallow-depth _ (given .sound) (given .splits))
+    let given = c .before .before .before .before .before .before .before .pre .1 .1 in
+    (given .sound .cell, shallow-depth _ (given .sound) (given .splits))
 
-check-group-check-node-requires : (t : ℕ) → check-group-lts.Need-check-node-requires (group-calls t) (check-group-at t) check-group.Post
+check-group-check-node-requires : (t : ℕ) → check-group-lts.Need-check-node-requires (group-calls t) (check-group-at t) check-group.Post Inv-loop μ-loop
 check-group-check-node-requires t c κs =
     let c1 = c .before in
     let c4 = c1 .before .before .before in
-    let c8 = c4 .before .before .before .before in
-    let given = c8 .pre .1 .1 in
+    let l = c4 .before .loop in
+    let c9 = c4 .before .before .before .before .before in
+    let given = c9 .pre .1 .1 in
     let below = c1 .below .ensures in (
-      omega (arith, c8 .pre .0, levels-below (c8 .args .region) (c8 .args .left - 1) (given .sound) (given .splits), ap levels below),
-      (c8 .pre .1 .0, subst Sound (sym below) (sound-below _ _ (given .sound)), omega (arith, given .within, given .five, c4 .if1 .left)),
+      omega (arith, c9 .pre .0, levels-below (c9 .args .region) (l .left - 1) (given .sound) (given .splits), ap levels below),
+      (l .inv .ready, subst Sound (sym below) (sound-below _ _ (given .sound)), omega (arith, given .within, l .inv .five, c4 .loop-test .taken)),
     )
 
-check-group-check-group-requires-2 : (t : ℕ) → check-group-lts.Need-check-group-requires-2 (group-calls t) (check-group-at t) check-group.Post
-check-group-check-group-requires-2 t c κs =
-    let c1 = c .before in
-    let c4 = c1 .before .before .before in
-    let c6 = c4 .before .before in
-    let c9 = c6 .before .before .before in
-    let c13 = c9 .before .before .before .before in
-    let given = c13 .pre .1 .1 in
-    let found = tree-yes (c6 .below .ensures) (c4 .check-node .result) (c1 .if3 .taken) (c4 .check-node .ensures) in (
-      omega (arith, c13 .pre .0, c9 .if1 .left),
-      (ready-again (c13 .pre .1 .0) (found .ready), record { sound = given .sound; splits = given .splits; within = given .within; five = omega (arith, given .five) }),
-    )
+check-group-same-length : (t : ℕ) → check-group-lts.Need-same-length (group-calls t) (check-group-at t) check-group.Post Inv-loop μ-loop
+check-group-same-length t c =
+    let c3 = c .before .before .before in
+    c3 .check-node .kept .1 .1 .1 .0 ∙ c3 .before .before .before .before .before .before .loop .inv .size
 
-check-group-same-length-2 : (t : ℕ) → check-group-lts.Need-same-length-2 (group-calls t) (check-group-at t) check-group.Post
-check-group-same-length-2 t c =
-    let c2 = c .before .before in
-    let c7 = c2 .before .before .before .before .before in
-    c2 .check-group2 .kept .1 .1 .1 .0 ∙ c7 .check-node .kept .1 .1 .1 .0
-
-check-group-returns-3 : (t : ℕ) → check-group-lts.Need-returns-3 (group-calls t) (check-group-at t) check-group.Post
-check-group-returns-3 t c =
-    let c2 = c .before .before in
-    let c4 = c2 .before .before in
-    let c7 = c4 .before .before .before in
-    let c9 = c7 .before .before in
-    let c12 = c9 .before .before .before in
-    let found = tree-yes (c9 .below .ensures) (c7 .check-node .result) (c4 .if3 .taken) (c7 .check-node .ensures) in
-    child-scanned _ _ _ _ _ _ _ (c12 .if1 .left) _ found (c2 .check-group2 .result) _ (c2 .check-group2 .ensures)
-
-check-group-same-length-3 : (t : ℕ) → check-group-lts.Need-same-length-3 (group-calls t) (check-group-at t) check-group.Post
-check-group-same-length-3 t c = c .before .before .before .check-node .kept .1 .1 .1 .0
-
-check-group-returns-4 : (t : ℕ) → check-group-lts.Need-returns-4 (group-calls t) (check-group-at t) check-group.Post
-check-group-returns-4 t c =
+check-group-returns : (t : ℕ) → check-group-lts.Need-returns (group-calls t) (check-group-at t) check-group.Post Inv-loop μ-loop
+check-group-returns t c =
     let c3 = c .before .before .before in
     let c5 = c3 .before .before in
     let c8 = c5 .before .before .before in
-    child-bad _ _ _ _ _ _ _ (c8 .if1 .left) _ (tree-no _ _ _ _ _ _ (c5 .below .ensures) (c3 .check-node .result) (c .if3 .left) (c3 .check-node .ensures))
+    let l = c8 .before .loop in
+    ahead-bad _ _ _ _ _ _ _ _ _ _ (l .inv) (λ e. absurd (omega (arith, c8 .loop-test .taken, e))) _
+    (tree-no _ _ _ _ _ _ (c5 .below .ensures) (c3 .check-node .result) (not-true _ (c .if2 .taken)) (c3 .check-node .ensures))
+
+check-group-loop-less-2 : (t : ℕ) → check-group-lts.Need-loop-less-2 (group-calls t) (check-group-at t) check-group.Post Inv-loop μ-loop
+check-group-loop-less-2 t c = omega (arith, c .before .before .before .before .before .before .before .before .loop-test .taken)
+
+check-group-loop-again-2 : (t : ℕ) → check-group-lts.Need-loop-again-2 (group-calls t) (check-group-at t) check-group.Post Inv-loop μ-loop
+check-group-loop-again-2 t c =
+    let c3 = c .before .before .before in
+    let c5 = c3 .before .before in
+    let c8 = c5 .before .before .before in
+    let l = c8 .before .loop in
+    let found = tree-yes (c5 .below .ensures) (c3 .check-node .result) (not-false _ (c .if2 .left)) (c3 .check-node .ensures) in
+    ahead-next _ _ _ _ _ _ _ _ _ _ (l .inv) (λ e. absurd (omega (arith, c8 .loop-test .taken, e))) _ found (c3 .check-node .kept .1 .1 .1 .0)
+
+check-group-same-length-2 : (t : ℕ) → check-group-lts.Need-same-length-2 (group-calls t) (check-group-at t) check-group.Post Inv-loop μ-loop
+check-group-same-length-2 t c = c .before .loop .inv .size
+
+check-group-returns-2 : (t : ℕ) → check-group-lts.Need-returns-2 (group-calls t) (check-group-at t) check-group.Post Inv-loop μ-loop
+check-group-returns-2 t c = ahead-end _ _ _ _ _ _ _ _ _ _ (c .before .loop .inv) (omega (arith, c .loop-test .left))
 
 check-node-node-at-requires : (t : ℕ) → check-node-lts.Need-node-at-requires (node-calls t) (check-node-at t) check-node.Post
 check-node-node-at-requires t c κs =
@@ -319,23 +310,25 @@ pub +check-group+check-node-spec : {M : Type 1} → statement M
 +check-group+check-node-spec = close μ-check-group μ-check-node (λ t. check-group-lts.spec (group-calls t)
     (check-group-at t)
     check-group.Post
-    (check-group-returns t)
-    (check-group-sub-child t)
+    Inv-loop
+    μ-loop
+    (check-group-loop-holds t)
+    (check-group-sub-left t)
     (check-group-mul-node t)
     (check-group-add-node t)
     (check-group-cast-node t)
     (check-group-add-node-2 t)
     (check-group-is-empty-requires t)
-    (check-group-check-group-requires t)
-    (check-group-same-length t)
-    (check-group-returns-2 t)
+    (check-group-loop-less t)
+    (check-group-loop-again t)
     (check-group-below-requires t)
     (check-group-check-node-requires t)
-    (check-group-check-group-requires-2 t)
+    (check-group-same-length t)
+    (check-group-returns t)
+    (check-group-loop-less-2 t)
+    (check-group-loop-again-2 t)
     (check-group-same-length-2 t)
-    (check-group-returns-3 t)
-    (check-group-same-length-3 t)
-    (check-group-returns-4 t))
+    (check-group-returns-2 t))
     λ t. check-node-lts.spec (node-calls t)
     (check-node-at t)
     check-node.Post
