@@ -1,13 +1,6 @@
 // The proved calls, by the exports of crates/host.
+use crate::krakvinge::raw::{krakvinge_check, krakvinge_make, krakvinge_references};
 use crate::plain::Memory;
-
-extern "C" {
-    fn krakvinge_make(s: *mut u32, sn: usize, n: *mut u32, nn: usize, d: *mut u32, dn: usize, r: *mut i32, rn: usize, m: *mut u8, mn: usize) -> u64;
-    fn krakvinge_check(s: *const u32, sn: usize, n: *const u32, nn: usize, d: *const u32, dn: usize, r: *const i32, rn: usize, m: *mut u8, mn: usize) -> u64;
-    fn krakvinge_references(
-        s: *const u32, sn: usize, n: *const u32, nn: usize, d: *const u32, dn: usize, r: *const i32, rn: usize, m: *mut u8, mn: usize, a: *mut u32, an: usize,
-    ) -> u64;
-}
 
 pub fn make(state: &mut [u32], m: &mut Memory) -> u64 {
     unsafe {

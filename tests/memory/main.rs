@@ -1,5 +1,8 @@
 // Runs make, the check and references on random and damaged memories, against document 01 in plain Rust.
 mod exports;
+#[path = "../../host/rust/krakvinge.rs"]
+#[allow(dead_code)]
+mod krakvinge;
 mod plain;
 
 use plain::{Memory, Random, Rect, Settings, BRANCH, NONE};

@@ -1,18 +1,9 @@
 // Document 01 in plain Rust: the lent memory with make, insert, remove and cleanup on its words, and the rules of 'the memory is a tree'.
-// It shares no code with the crates and takes no care of speed.
+// It shares no code with the crates and takes no care of speed; the settings are the wrapper's.
+pub use crate::krakvinge::{Rect, Settings};
+
 pub const NONE: u32 = 4294967295;
 pub const BRANCH: u32 = 4294967295;
-
-#[derive(Clone, Copy, PartialEq, Debug)]
-pub struct Settings {
-    pub left: i32,
-    pub top: i32,
-    pub width: i32,
-    pub height: i32,
-    pub depth_limit: u32,
-    pub leaf_limit: u32,
-    pub smallest_cell: u32,
-}
 
 #[derive(Clone, PartialEq, Debug)]
 pub struct Memory {
@@ -25,8 +16,6 @@ pub struct Memory {
     pub rects: Vec<i32>,
     pub marks: Vec<u8>,
 }
-
-pub type Rect = [i32; 4];
 
 #[derive(Clone, Copy)]
 pub struct Cell {
