@@ -2,12 +2,13 @@
 ghost use mathlib.Core.Path.{_≡_};
 ghost use Prim.Native.Nat.{_<_, _≤_};
 ghost use lib.ListN.{length};
-ghost use Rattle.model.specs.Calls.{carryOut, refusedWord, yesNo};
+ghost use Rattle.model.specs.Calls.{carryOut, refusedWord};
 ghost use Rattle.tree.specs.Operations.{IsTree};
 ghost use Rattle.batch_step.specs.Steps.{recordOf, Leaves, Stepped, Begun};
 use model::Dot;
 use model::Record;
 use model::State;
+use model::yes_no;
 use tree_check::check::check;
 use tree_cleanup::cleanup_tree;
 use tree_insert::Inserted;
@@ -34,13 +35,6 @@ fn refused_word(refusal: u32) -> u32
     ensures { λ r. ⌜ r ≡ refusedWord refusal ⌝ }
 {
     4294967040 + refusal
-}
-
-// The answer word of a yes or no.
-fn yes_no(yes: bool) -> u32
-    ensures { λ r. ⌜ r ≡ yesNo yes ⌝ }
-{
-    if yes { 1 } else { 0 }
 }
 
 // An insert, with its answer word.

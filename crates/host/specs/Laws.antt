@@ -5,24 +5,25 @@
 --     exported-other, exported-row     THE PATTERN: rows of another length, and a call carried out
 --     check-other, check-row, make-other, make-row     the same for the check and make
 use mathlib.Core.Path.{_≡_, refl, sym, _∙_, subst}
-use mathlib.Core.List.{List, [], _∷_, _++_}
+use mathlib.Core.List.{List, [], _∷_}
 use mathlib.Core.Bool.{Bool, true, false, not, _&&_}
-use Prim.Native.Nat.{ℕ, zero, suc, _*_, _/_, _%_, _≤_, _<_}
+use Prim.Native.Nat.{ℕ, _+_, _*_, _/_, _%_, _≤_, _<_}
 use native.Mathlib.Omega.{arith}
-use lib.Dec.{eqb, ltb}
+use lib.Dec.{eqb}
 use lib.IntN.{ℤ, pos, _-ℤ_}
 use lib.ListN.{length, getD, set}
-use lib.Seq.{set-getD, getD-at}
+use lib.Seq.{set-getD}
 use mir.Syntax.{w32, w64}
 use mir.Val.{SFits}
-use borrow.Author.Tests.{lt-ltb, le-ltb, eqb-true, eq-eqb, ne-eqb, ltb-true, ltb-false, not-true, not-false}
-use Rattle.arithmetic.specs.Tests.{byBool}
-use Rattle.arithmetic.specs.Linear.{ints, dif, nat-eq, fits32, fits64}
+use borrow.Author.Tests.{lt-ltb, le-ltb, eqb-true, eq-eqb, ne-eqb, not-true, not-false}
+use Rattle.arithmetic.specs.Tests.{true-false}
+use Rattle.arithmetic.specs.Linear.{and-t, ints, dif, nat-eq, fits32, fits64}
 use Rattle.geometry.specs.declared.settings.Settings.{Settings}
 use Rattle.model.specs.declared.Record.{Record}
 use Rattle.model.specs.declared.State.{State}
 use Rattle.model.specs.Lists.{joinBelow, length-joinBelow}
 use Rattle.model.specs.Layout.{World, world}
+use Rattle.model.specs.Laws.Entries.{getD-joinBelow}
 use Rattle.model.specs.Calls.{Reply, refused, answered, Make}
 use Rattle.memory.specs.declared.make.Making.{Making}
 use Rattle.memory.specs.Fresh.{stateAfter, replyOf}
@@ -51,13 +52,6 @@ module _ (w : ℕ) (word : w < 4294967296) (far : 2147483648 ≤ w) where
 
 -- ---- rows
 
-both : (a b : Bool) → a && b ≡ true → (a ≡ true) × (b ≡ true)
-both true b e = (refl, e)
-both false b e = absurd (let n : _≡_ {A = ℕ} 0 1 = cc in omega arith)
-
-no-both : (b : Bool) → b ≡ false → b ≡ true → ⊥
-no-both b f t = let n : _≡_ {A = ℕ} 0 1 = cc in omega arith
-
 -- the code's test
 module _ {fits b : Bool} (test : b ≡ fits) where
   unfit : not b ≡ true → fits ≡ false
@@ -69,15 +63,15 @@ module _ {fits b : Bool} (test : b ≡ fits) where
 module _ (state answer : List ℕ) {b : Bool} (test : b ≡ rowsFit state answer) where
   pub ten : not b ≡ false → length state ≡ 10
   unfolding rowsFit
-  ten n = eqb-true _ _ (both (eqb (length state) 10) (eqb (length answer) 2) (fit test n) .0)
+  ten n = eqb-true _ _ (and-t (eqb (length state) 10) (eqb (length answer) 2) (fit test n) .0)
 
   pub two : not b ≡ false → length answer ≡ 2
   unfolding rowsFit
-  two n = eqb-true _ _ (both (eqb (length state) 10) (eqb (length answer) 2) (fit test n) .1)
+  two n = eqb-true _ _ (and-t (eqb (length state) 10) (eqb (length answer) 2) (fit test n) .1)
 
 pub batch-ten : (state records : List ℕ) {b : Bool} → b ≡ batchFits state records → not b ≡ false → length state ≡ 10
 unfolding batchFits
-batch-ten state records test n = eqb-true _ _ (both (eqb (length state) 10) (eqb (length records % 6) 0) (fit test n) .0)
+batch-ten state records test n = eqb-true _ _ (and-t (eqb (length state) 10) (eqb (length records % 6) 0) (fit test n) .0)
 
 -- two stores fill an answer row
 pub answer-words : (row : List ℕ) (a b : ℕ) → length row ≡ 2 → set (set row 0 a) 1 b ≡ a ∷ b ∷ []
@@ -113,22 +107,12 @@ pub records-length : (row : List ℕ) → length (recordsIn row) ≡ length row 
 unfolding recordsIn
 records-length row = omega (arith, length-joinBelow (length row / 6) 1 (λ i. recordIn row i ∷ []) (λ i. refl))
 
-getD-first : {A : Type 0} (xs ys : List A) (i : ℕ) (d : A) → i < length xs → getD (xs ++ ys) i d ≡ getD xs i d
-getD-first [] ys i d l = absurd (omega arith)
-getD-first (x ∷ xs) ys zero d l = refl
-getD-first (x ∷ xs) ys (suc i) d l = getD-first xs ys i d (omega arith)
-
-getD-below : {A : Type 0} (n i : ℕ) (f : ℕ → A) (d : A) → i < n → getD (joinBelow n (λ k. f k ∷ [])) i d ≡ f i
-getD-below zero i f d l = absurd (omega arith)
-getD-below (suc n) i f d l =
-    let many : length (joinBelow n (λ k. f k ∷ [])) ≡ n = omega (arith, length-joinBelow n 1 (λ k. f k ∷ []) (λ k. refl)) in
-    byBool (ltb i n)
-    (λ e. getD-first (joinBelow n (λ k. f k ∷ [])) (f n ∷ []) i d (omega (arith, many, ltb-true i n e)) ∙ getD-below n i f d (ltb-true i n e))
-    (λ e. let last : i ≡ n = omega (arith, ltb-false i n e) in rw last (getD-at (joinBelow n (λ k. f k ∷ [])) (f n) [] d n many))
-
 records-at : (row : List ℕ) (i : ℕ) → i < length row / 6 → getD (recordsIn row) i noRecord ≡ recordIn row i
 unfolding recordsIn
-records-at row i l = getD-below (length row / 6) i (recordIn row) noRecord l
+records-at row i l =
+    let at : 1 * i + 0 ≡ i = omega arith in
+    subst (λ (k : ℕ). getD (joinBelow (length row / 6) (λ j. recordIn row j ∷ [])) k noRecord ≡ recordIn row i) at
+    (getD-joinBelow 1 (length row / 6) (λ j. recordIn row j ∷ []) (λ j. refl) i 0 noRecord l (omega arith))
 
 pub begun-records : (row : List ℕ) {words : ℕ} {s : State} {nodes dots : List ℕ} {rects : List ℤ} {marks : List ℕ} {b : Batched} {marks′ : List ℕ}
     → Begun (length row / 6) words s nodes dots rects marks b marks′ → Begun (length (recordsIn row)) words s nodes dots rects marks b marks′
@@ -153,7 +137,7 @@ batch-answered b e = rw (eq-eqb (b .refusal) 0 e) refl
 
 module _ {B A : Type 0} {fits : Bool} (words : A → List ℕ) (says : World → List B → World → List B → Reply A → Type 0) where
   pub exported-other : (l : Lent) (row : List B) {b : Bool} → b ≡ fits → not b ≡ true → Exported fits words says l row l row 1
-  exported-other l row test n = record { otherLength = λ _. (refl, refl, refl); carriedOut = λ e. absurd (no-both _ (unfit test n) e) }
+  exported-other l row test n = record { otherLength = λ _. (refl, refl, refl); carriedOut = λ e. true-false (sym e ∙ unfit test n) }
 
   pub exported-row : (l l′ : Lent) (row row′ : List B) (result : ℕ) (s s′ : State) (reply : Reply A) {b : Bool}
       → b ≡ fits → not b ≡ false → s ≡ stateIn (l .state)
@@ -162,7 +146,7 @@ module _ {B A : Type 0} {fits : Bool} (words : A → List ℕ) (says : World →
       → Exported fits words says l row l′ row′ result
   exported-row l l′ row row′ result s s′ reply test n e said state answer same =
       record {
-        otherLength = λ f. absurd (no-both _ f (fit test n));
+        otherLength = λ f. true-false (sym (fit test n) ∙ f);
         carriedOut = λ _. (s′, reply, subst (λ (t : State). says (worldOf t l) row (worldOf s′ l′) row′ reply) e said, state, answer, same);
       }
 

@@ -6,7 +6,6 @@ use crate::rows::rows_fit;
 use crate::rows::settings_in;
 use crate::rows::state_in;
 use crate::rows::state_out;
-use crate::rows::yes_no;
 use calls::cleanup::CleanupAnswer;
 use calls::cleanup::cleanup;
 use calls::insert::InsertAnswer;
@@ -17,6 +16,7 @@ use geometry::aabb::AABB;
 use memory::make::Making;
 use memory::make::make;
 use model::Dot;
+use model::yes_no;
 
 // Makes the rows a fresh tree with the settings of the state row, and writes its free heads and live number there.
 #[no_mangle]

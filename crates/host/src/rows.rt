@@ -3,7 +3,6 @@ ghost use mathlib.Core.Path.{_≡_};
 ghost use mathlib.Core.List.{[], _∷_};
 ghost use Prim.Native.Nat.{_+_, _*_};
 ghost use lib.ListN.{length};
-ghost use Rattle.model.specs.Calls.{yesNo};
 ghost use Rattle.host.specs.Rows.{signed, settingsIn, stateIn, rowsFit, withState};
 use geometry::settings::Settings;
 use model::State;
@@ -74,12 +73,6 @@ pub fn answer_out(answer: &mut [u32], first: u32, second: u32)
 {
     answer[0] = first;
     answer[1] = second;
-}
-
-pub fn yes_no(yes: bool) -> u32
-    ensures { λ r. ⌜ r ≡ yesNo yes ⌝ }
-{
-    if yes { 1 } else { 0 }
 }
 
 // What a call returns that was refused 8.

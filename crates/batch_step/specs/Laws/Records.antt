@@ -90,7 +90,7 @@ unfolding Leaves
 kept-settings r s nodes dots rects s′ nodes′ dots′ rects′ word t l =
     let x = t .shape in
     holds-settings (world s′ nodes′ dots′ rects′ (t .marks)) (carryOut r x .shape) (l (t .marks) x (t .holds) .0)
-    ∙ record-settings r x
+    ∙ record-settings r x (t .holds .valid)
     ∙ sym (holds-settings (world s nodes dots rects (t .marks)) x (t .holds))
 
 -- the settings are kept, so that the state after a record is the one before with other heads and another live number

@@ -5,20 +5,16 @@
 --     record-settings      it keeps the settings
 --     insert-record, remove-record, cleanup-record, other-record   a record is its single operation
 use mathlib.Core.Path.{_≡_, refl, ap, sym, subst}
-use mathlib.Core.Bool.{_||_}
 use mathlib.Core.Logic.{⊎-elim}
 use mathlib.Core.List.{List, [], _∷_, _++_}
 use Prim.Native.Nat.{ℕ, suc, _+_}
 use lib.ListN.{length}
-use lib.Dec.{eqb, ltb}
+use lib.Dec.{eqb}
 use borrow.Author.Tests.{eq-eqb, ne-eqb}
 use Rattle.arithmetic.specs.Tests.{byBool}
 use Rattle.model.specs.declared.Dot.{Dot}
 use Rattle.model.specs.declared.Record.{Record}
-use Rattle.model.specs.Trees.{size}
-use Rattle.model.specs.Shapes.{Shape, Valid, foundBy, inserted, removed, cleaned, splitsNeeded}
-use Rattle.geometry.specs.Rectangles.{inverted, farOut}
-use Rattle.geometry.specs.Settings.{rootOf, contains}
+use Rattle.model.specs.Shapes.{Shape, Valid, foundBy, inserted, removed, cleaned}
 use Rattle.model.specs.Calls.{recorded, refusedWord, yesNo, insertRule, removeRule, cleanupRule, carryOut, batchShape, batchWords}
 use Rattle.model.specs.Laws.Shapes.{inserted-valid, removed-valid, cleaned-valid}
 use Rattle.model.specs.Laws.Calls.{insert-cases}
@@ -70,22 +66,13 @@ cleanup-keeps : (x : Shape) → Valid x → Valid (recorded yesNo x (cleanupRule
 unfolding cleanupRule
 cleanup-keeps x v = cleaned-valid x v
 
-insert-settings : (dot : Dot) (x : Shape) → recorded (λ splits. splits) x (insertRule dot x) .shape .settings ≡ x .settings
-unfolding insertRule inserted
-insert-settings dot x =
-    let r = dot .rect in
-    byBool (inverted r || farOut r)
-    (λ e₄. rw e₄ refl)
-    (λ e₄.
-    byBool (contains (rootOf (x .settings)) r)
-    (λ e₅.
-    byBool (eqb (size (x .tree)) (x .places))
-    (λ e₆. rw (e₄, e₅, e₆) refl)
-    (λ e₆.
-    byBool (ltb (length (x .freeGroups)) (splitsNeeded dot x))
-    (λ e₇. rw (e₄, e₅, e₆, e₇) refl)
-    (λ e₇. rw (e₄, e₅, e₆, e₇) refl)))
-    (λ e₅. rw (e₄, e₅) refl))
+insert-settings : (dot : Dot) (x : Shape) → Valid x → recorded (λ splits. splits) x (insertRule dot x) .shape .settings ≡ x .settings
+unfolding inserted
+insert-settings dot x v =
+    ⊎-elim
+    (λ k. ap (λ u. recorded (λ (n : ℕ). n) x u .shape .settings) (k .1))
+    (λ g. ap (λ u. recorded (λ (n : ℕ). n) x u .shape .settings) (g .3))
+    (insert-cases dot x v)
 
 remove-settings : (dot : Dot) (x : Shape) → recorded yesNo x (removeRule (dot .id) (dot .rect) x) .shape .settings ≡ x .settings
 unfolding removeRule removed
@@ -107,11 +94,11 @@ record-valid r x v =
     (λ f. rw f (byBool (eqb (r .kind) 2) (λ g. rw g (cleanup-keeps x v)) (λ g. rw g v)))))
 
 -- a record keeps the settings
-pub record-settings : (r : Record) (x : Shape) → carryOut r x .shape .settings ≡ x .settings
+pub record-settings : (r : Record) (x : Shape) → Valid x → carryOut r x .shape .settings ≡ x .settings
 unfolding carryOut
-record-settings r x =
+record-settings r x v =
     byBool (eqb (r .kind) 0)
-    (λ e. rw e (insert-settings (r .dot) x))
+    (λ e. rw e (insert-settings (r .dot) x v))
     (λ e.
     rw e
     (byBool (eqb (r .kind) 1)
