@@ -1,5 +1,4 @@
 -- The walk of a chain: what is left to list, at each turn of the loop.
---     unreached    a rectangle that the query does not reach does not intersect it
 --     dot-missed, dot-hit  one dot
 --     Rest         what has been listed and what is left make the whole
 --     rest-start, rest-turn, rest-end      the loop's three steps
@@ -11,12 +10,9 @@ use Prim.Native.Nat.{ℕ, _+_, _-_, _≤_, _<_}
 use native.Mathlib.Omega.{arith}
 use lib.IntN.{ℤ}
 use lib.ListN.{length}
-use lib.Signed.{ltZ}
-use Rattle.arithmetic.specs.Tests.{byBool, true-false}
-use Rattle.arithmetic.specs.Linear.{ints}
+use Rattle.arithmetic.specs.Tests.{byBool}
 use Rattle.geometry.specs.declared.aabb.AABB.{AABB}
 use Rattle.geometry.specs.Rectangles.{intersects}
-use Rattle.geometry.specs.Laws.Geometry.{meets}
 use Rattle.model.specs.declared.Dot.{Dot}
 use Rattle.model.specs.Lists.{All}
 use Rattle.model.specs.Dots.{isHit}
@@ -27,22 +23,9 @@ use Rattle.memory.specs.Rows.{HasPlace, HasRect}
 use Rattle.tree.specs.Standing.{InRows}
 use Rattle.tree_query.specs.declared.walk.Found.{Found}
 use Rattle.tree_query.specs.Rows.{kept, keptAll, kept-length}
-use Rattle.tree_query.specs.Walks.{chainHits, reachesRect, hitsAfter, rowWith, after, rowAfter, Left, ChainWalked}
+use Rattle.tree_query.specs.Walks.{chainHits, hitsAfter, rowWith, after, rowAfter, Left, ChainWalked}
 
 -- ---- one dot
-
-reached : (q r : AABB) → intersects q r ≡ true → reachesRect q r ≡ true
-unfolding reachesRect
-reached q r h =
-    let m = meets q r h in
-    let left : ltZ (r .x2) (q .x1) ≡ false = omega (arith, ints, m .ax) in
-    let right : ltZ (q .x2) (r .x1) ≡ false = omega (arith, ints, m .bx) in
-    let above : ltZ (r .y2) (q .y1) ≡ false = omega (arith, ints, m .ay) in
-    let below : ltZ (q .y2) (r .y1) ≡ false = omega (arith, ints, m .by) in
-    rw (left, right, above, below) refl
-
-pub unreached : (q r : AABB) → reachesRect q r ≡ false → intersects q r ≡ false
-unreached q r e = byBool (intersects q r) (λ h. true-false (sym (reached q r h) ∙ e)) (λ h. h)
 
 module _ (q : AABB) (d : Dot) (room : ℕ) (row : List ℕ) (at : ℕ) where
   pub dot-missed : intersects q (d .rect) ≡ false → (at ≡ hitsAfter q d at) × (row ≡ rowWith q d room row at)

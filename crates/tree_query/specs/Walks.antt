@@ -2,10 +2,9 @@
 --     after, rowAfter      what a walk has met, and the row, once some dots are listed and some nodes opened
 use mathlib.Core.Path.{_≡_}
 use mathlib.Core.List.{List, [], _++_, map}
-use mathlib.Core.Bool.{Bool, not, _&&_, cond}
+use mathlib.Core.Bool.{cond}
 use Prim.Native.Nat.{ℕ, zero, suc, _+_, _-_, _≤_, _<_}
 use lib.IntN.{ℤ}
-use lib.Signed.{ltZ}
 use lib.ListN.{length}
 use Rattle.geometry.specs.declared.aabb.AABB.{AABB}
 use Rattle.geometry.specs.declared.centered_aabb.CenteredAABB.{CenteredAABB}
@@ -42,10 +41,6 @@ groupHits q n f left = joinLast left (λ i. cond (opens q n i) (hits q (childDat
 
 abbrev pub groupOpened : AABB → NodeData → (ℕ → Tree) → ℕ → ℕ
 groupOpened q n f left = sumLast left (λ i. cond (opens q n i) (opened q (childData n i) (f i)) 0)
-
--- one dot: the query reaches its rectangle where neither lies beyond the other on an axis
-unfoldable pub reachesRect : AABB → AABB → Bool
-reachesRect q r = not (ltZ (r .x2) (q .x1)) && (not (ltZ (q .x2) (r .x1)) && (not (ltZ (r .y2) (q .y1)) && not (ltZ (q .y2) (r .y1))))
 
 unfoldable pub hitsAfter : AABB → Dot → ℕ → ℕ
 hitsAfter q d at = cond (isHit q d) (at + 1) at

@@ -3,13 +3,14 @@ ghost use mathlib.Core.Path.{_≡_};
 ghost use Prim.Native.Nat.{_≤_, _<_};
 ghost use lib.ListN.{length};
 ghost use Rattle.tree_query.specs.Rows.{kept};
-ghost use Rattle.model.specs.Memory.{rectAt, dotAt};
+ghost use Rattle.model.specs.Memory.{dotAt};
 ghost use Rattle.memory.specs.Rows.{HasPlace, HasRect};
-ghost use Rattle.tree_query.specs.Walks.{reachesRect, hitsAfter, rowWith, ChainWalk, NodeWalk, GroupWalk, ChainWalked, NodeWalked, GroupWalked};
+ghost use Rattle.tree_query.specs.Walks.{hitsAfter, rowWith, ChainWalk, NodeWalk, GroupWalk, ChainWalked, NodeWalked, GroupWalked};
 use geometry::aabb::AABB;
 use geometry::centered_aabb::CenteredAABB;
 use geometry::quadrants::Quadrants;
 use memory::node::Node;
+use memory::places::reaches;
 use memory::words::dot_at;
 use memory::words::next_at;
 use memory::words::node_at;
@@ -42,26 +43,6 @@ fn list_dot(query: AABB, dot: Dot, row: &mut [u32], room: usize, hits: usize) ->
     }
     keep(row, room, hits, dot.id);
     hits + 1
-}
-
-// Whether the query reaches the rectangle of a place: neither lies beyond the other on an axis. It reads no more words than it needs.
-fn reaches(query: AABB, rects: &[i32], place: usize) -> bool
-    requires { ⌜ HasRect (now rects) place ⌝ }
-    ensures { λ r. ⌜ r ≡ reachesRect query (rectAt (now (rects .entry)) place) ⌝ }
-{
-    if rects[4 * place + 2] < query.x1 {
-        return false;
-    }
-    if query.x2 < rects[4 * place + 0] {
-        return false;
-    }
-    if rects[4 * place + 3] < query.y1 {
-        return false;
-    }
-    if query.y2 < rects[4 * place + 1] {
-        return false;
-    }
-    true
 }
 
 // Lists the dot of a place where the query meets it; how many are then listed.

@@ -1,10 +1,11 @@
 -- A rectangle that the query does not reach does not intersect it.
 use mathlib.Core.Path.{ap, sym, _∙_}
 use borrow.Author.Tests.{not-true}
+use Rattle.geometry.specs.Laws.Geometry.{unreached}
 use Rattle.model.specs.declared.Dot.{Dot}
 use Rattle.model.specs.Memory.{dotAt}
 use Rattle.tree_query.specs.Walks.{hitsAfter, rowWith}
-use Rattle.tree_query.specs.Chains.{unreached, dot-missed}
+use Rattle.tree_query.specs.Chains.{dot-missed}
 use borrow.Author.Needs.{needs}
 use Rattle.tree_query.proofs.walk.list_place.Statement.{statement}
 use Rattle.tree_query.proofs.walk.list_place.Tie as tie
