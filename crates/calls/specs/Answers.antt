@@ -2,7 +2,8 @@
 use mathlib.Core.Bool.{Bool, true, false}
 use Prim.Native.Nat.{ℕ}
 use Rattle.model.specs.declared.State.{State}
-use Rattle.model.specs.Calls.{Reply, refused, tooMany, answered, Listed}
+use Rattle.model.specs.declared.answers.Found.{Found}
+use Rattle.model.specs.Calls.{Reply, refused, tooMany, answered}
 use Rattle.calls.specs.declared.references.Counted.{Counted}
 use Rattle.calls.specs.declared.references.Counted.the-variants as counted
 use Rattle.calls.specs.declared.query.QueryAnswer.{QueryAnswer}
@@ -22,7 +23,7 @@ referencesReply (counted.Refused k) = refused k
 referencesReply (counted.Count n) = answered n
 
 -- query and all: the ids listed, and the nodes opened; 8 'returns how many there are'
-abbrev pub queryReply : QueryAnswer → Reply Listed
+abbrev pub queryReply : QueryAnswer → Reply Found
 queryReply (query.Refused k) = refused k
 queryReply (query.TooMany n) = tooMany n
 queryReply (query.Listed hits opened) = answered (record { hits = hits; opened = opened })

@@ -13,7 +13,8 @@ use lib.ListN.{length}
 use Rattle.geometry.specs.declared.aabb.AABB.{AABB}
 use Rattle.model.specs.declared.State.{State}
 use Rattle.model.specs.Layout.{World, world}
-use Rattle.model.specs.Calls.{Reply, refused, tooMany, answered, Listed, yesNo, Insert, Remove, Cleanup, Query, All, Leaves, References, Make, Batch}
+use Rattle.model.specs.declared.answers.Found.{Found}
+use Rattle.model.specs.Calls.{Reply, refused, tooMany, answered, yesNo, Insert, Remove, Cleanup, Query, All, Leaves, References, Make, Batch}
 use Rattle.memory.specs.declared.make.Making.{Making}
 use Rattle.memory.specs.Fresh.{stateAfter, replyOf}
 use Rattle.tree_check.specs.Checks.{Checked}
@@ -56,7 +57,7 @@ number n = n ∷ 0 ∷ []
 abbrev pub yesOrNo : Bool → List ℕ
 yesOrNo yes? = yesNo yes? ∷ 0 ∷ []
 
-abbrev pub hitsOpened : Listed → List ℕ
+abbrev pub hitsOpened : Found → List ℕ
 hitsOpened l = l .hits ∷ l .opened ∷ []
 
 -- says: the call, from the world and its row of answers before to those after, with its reply
@@ -86,7 +87,7 @@ Counts l l′ result =
 
 abbrev pub Queries : AABB → Lent → List ℕ → Lent → List ℕ → ℕ → Type 0
 Queries r l row l′ row′ result =
-    Exported (rowsFit (l .state) (l .answer)) hitsOpened (λ (w : World) (ids : List ℕ) (w′ : World) (ids′ : List ℕ) (reply : Reply Listed). Query w r ids w′ ids′ reply) l row l′ row′ result
+    Exported (rowsFit (l .state) (l .answer)) hitsOpened (λ (w : World) (ids : List ℕ) (w′ : World) (ids′ : List ℕ) (reply : Reply Found). Query w r ids w′ ids′ reply) l row l′ row′ result
 
 abbrev pub ListsAll : Lent → List ℕ → Lent → List ℕ → ℕ → Type 0
 ListsAll l row l′ row′ result = Exported (rowsFit (l .state) (l .answer)) hitsOpened All l row l′ row′ result

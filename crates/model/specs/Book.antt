@@ -20,7 +20,8 @@ use Rattle.geometry.specs.Settings.{D}
 use Rattle.model.specs.declared.Dot.{Dot}
 use Rattle.model.specs.Dots.{isHit}
 use Rattle.model.specs.Layout.{World}
-use Rattle.model.specs.Calls.{Reply, refused, tooMany, answered, Listed, Make, Insert, Remove, Cleanup, Query}
+use Rattle.model.specs.declared.answers.Found.{Found}
+use Rattle.model.specs.Calls.{Reply, refused, tooMany, answered, Make, Insert, Remove, Cleanup, Query}
 
 -- ---- calls and their replies
 
@@ -28,7 +29,7 @@ pub data Event : Type 0 where
   insert : Dot → Reply ℕ → Event
   remove : ℕ → AABB → Reply Bool → Event
   cleanup : Reply Bool → Event
-  query : AABB → List ℕ → List ℕ → Reply Listed → Event
+  query : AABB → List ℕ → List ℕ → Reply Found → Event
 
 -- the event can happen: the call, given the world w and its arguments, may leave w′ and give this reply
 abbrev pub Happens : World → Event → World → Type 0
@@ -134,8 +135,8 @@ pub record Exactly (q : AABB) (b : List Dot) (listed : List ℕ) : Type 0 where
 pub record Promise (s : Settings) (w : World) (b : List Dot) : Type 0 where
   -- 'A query with any rectangle and a long enough answer row lists exactly the live ids whose rectangles intersect its own, each once.'
   -- 'a row is long enough with a word for each id to be listed'. The row then begins with the ids, as many as the answer reports.
-  pub lists : (q : AABB) (row row′ : List ℕ) (w′ : World) (reply : Reply Listed) → Query w q row w′ row′ reply → length (meeting q b) ≤ length row
-      → (a : Listed) × (reply ≡ answered a) × Exactly q b (take (a .hits) row′)
+  pub lists : (q : AABB) (row row′ : List ℕ) (w′ : World) (reply : Reply Found) → Query w q row w′ row′ reply → length (meeting q b) ≤ length row
+      → (a : Found) × (reply ≡ answered a) × Exactly q b (take (a .hits) row′)
   -- 'A remove of a live id by the rectangle it was put in with says yes'
   pub removesLive : (d : Dot) (w′ : World) (reply : Reply Bool) → Remove w (d .id) (d .rect) w′ reply → Has d b → reply ≡ answered true
   -- 'a remove of an id that isn't live says no, whatever the rectangle'
@@ -145,7 +146,7 @@ pub record Promise (s : Settings) (w : World) (b : List Dot) : Type 0 where
   pub cleanupsEnd : (es : List Event) (v w′ : World) (reply : Reply Bool) → Run w es v → Quiet es → D s ≤ cleanups es → Cleanup v w′ reply → reply ≡ answered false
   -- 'and from that no on every accepted query opens at most 1 + 5 × D × n nodes, by the count it returns'
   pub opensFew : (es fs : List Event) (v w′ : World) → Run w (es ++ cleanup (answered false) ∷ fs) v → Quiet es → Quiet fs
-      → (q : AABB) (row row′ : List ℕ) (a : Listed) → Query v q row w′ row′ (answered a) → a .opened ≤ 1 + 5 * D s * length b
+      → (q : AABB) (row row′ : List ℕ) (a : Found) → Query v q row w′ row′ (answered a) → a .opened ≤ 1 + 5 * D s * length b
 
 -- 'For every list of inserts, removes, cleanups and queries, refused ones included, from a fresh tree, in which no accepted insert names an id then live,
 -- this holds after it.' The tree is fresh as an accepted make left it, in any lent memory.

@@ -15,6 +15,7 @@ use Rattle.geometry.specs.declared.aabb.AABB.{AABB}
 use Rattle.geometry.specs.declared.settings.Settings.{Settings}
 use Rattle.model.specs.declared.Dot.{Dot}
 use Rattle.model.specs.declared.Record.{Record}
+use Rattle.model.specs.declared.answers.Found.{Found}
 use Rattle.geometry.specs.Rectangles.{inverted, farOut}
 use Rattle.geometry.specs.Settings.{rootOf, inRange, contains, rootRect}
 use Rattle.model.specs.Trees.{size}
@@ -86,19 +87,14 @@ cleanupRule x = accept (cleaned x) [] (cleans x)
 unfoldable pub referencesRule : Shape → Verdict ℕ ℕ
 referencesRule x = accept x [] (references x)
 
--- what a query returns beside the ids in its row: the hits, which is how many words of the row are ids, and the nodes opened
-pub record Listed : Type 0 where
-  pub hits : ℕ
-  pub opened : ℕ
-
 -- 'Query, leaves, all then: 8 the answers outnumber the row (a leaf is one answer and takes six words); it returns how many there are.'
-unfoldable pub queryRule : AABB → ℕ → Shape → Verdict ℕ Listed
+unfoldable pub queryRule : AABB → ℕ → Shape → Verdict ℕ Found
 queryRule q room x =
     let ids = listed q x in
     cond (ltb room (length ids)) (overflow (length ids)) (accept x ids (record { hits = length ids; opened = opensFor q x }))
 
 -- 'All: a query with the root's rectangle.'
-unfoldable pub allRule : ℕ → Shape → Verdict ℕ Listed
+unfoldable pub allRule : ℕ → Shape → Verdict ℕ Found
 allRule room x = queryRule (rootRect (x .settings)) room x
 
 unfoldable pub leavesRule : ℕ → Shape → Verdict ℤ ℕ
@@ -157,13 +153,13 @@ Cleanup w w′ reply = Obeys true cleanupRule w [] (exit w′ [] reply)
 unfoldable pub References : World → World → Reply ℕ → Type 0
 References w w′ reply = Obeys true referencesRule w [] (exit w′ [] reply)
 
-unfoldable pub Query : World → AABB → List ℕ → World → List ℕ → Reply Listed → Type 0
+unfoldable pub Query : World → AABB → List ℕ → World → List ℕ → Reply Found → Type 0
 Query w q row w′ row′ reply = Obeys true (queryRule q (length row)) w row (exit w′ row′ reply)
 
 unfoldable pub Leaves : World → List ℤ → World → List ℤ → Reply ℕ → Type 0
 Leaves w row w′ row′ reply = Obeys true (leavesRule (length row)) w row (exit w′ row′ reply)
 
-unfoldable pub All : World → List ℕ → World → List ℕ → Reply Listed → Type 0
+unfoldable pub All : World → List ℕ → World → List ℕ → Reply Found → Type 0
 All w row w′ row′ reply = Obeys true (allRule (length row)) w row (exit w′ row′ reply)
 
 -- 'Batch: 1 covers rows of unequal length.' 'The check is made once.'

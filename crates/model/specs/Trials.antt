@@ -19,7 +19,8 @@ use Rattle.geometry.specs.Settings.{rootOf, W, bitsWithin, bitLength, halvings,
 use Rattle.geometry.specs.Cells.{routeCell, mayDivide, rootCell, rootData, childCentre, quarterCell, childCell, childData, quadrant, route, bothTests, opens}
 use Rattle.model.specs.Shapes.{Shape, fresh, inserted, splitsMade, splitsNeeded, removed, foundBy, cleaned, cleans, listed, opensFor, leaves as leafRow, leafNumber, references as dotCount}
 use Rattle.model.specs.Layout.{none, branchMark, layout}
-use Rattle.model.specs.Calls.{Verdict, refuse, overflow, accept, recorded, refusedWord, yesNo, Listed, insertRule, removeRule, cleanupRule, queryRule, allRule, leavesRule, referencesRule}
+use Rattle.model.specs.declared.answers.Found.{Found}
+use Rattle.model.specs.Calls.{Verdict, refuse, overflow, accept, recorded, refusedWord, yesNo, insertRule, removeRule, cleanupRule, queryRule, allRule, leavesRule, referencesRule}
 use Rattle.arithmetic.specs.Ints.{maxZ, minZ}
 
 -- 'Root 0,0,16,16, limits as above' (depth limit 2, smallest cell 1) with a leaf limit
@@ -86,7 +87,7 @@ sameList [] (y ∷ ys) = false
 sameList (x ∷ xs) [] = false
 sameList (x ∷ xs) (y ∷ ys) = eqb x y && sameList xs ys
 
-abbrev lists : Verdict ℕ Listed → List ℕ → Bool
+abbrev lists : Verdict ℕ Found → List ℕ → Bool
 lists (refuse k) ids = false
 lists (overflow n) ids = false
 lists (accept x row a) ids = sameList row ids
@@ -103,7 +104,7 @@ listsLeaves (refuse k) row = false
 listsLeaves (overflow n) row = false
 listsLeaves (accept x given n) row = sameRow given row
 
-abbrev opensJust : Verdict ℕ Listed → ℕ → Bool
+abbrev opensJust : Verdict ℕ Found → ℕ → Bool
 opensJust (refuse k) n = false
 opensJust (overflow m) n = false
 opensJust (accept x row a) n = eqb (a .opened) n

@@ -11,7 +11,8 @@ use lib.ListN.{take}
 use Rattle.geometry.specs.declared.aabb.AABB.{AABB}
 use Rattle.model.specs.declared.Dot.{Dot}
 use Rattle.model.specs.Layout.{World}
-use Rattle.model.specs.Calls.{Reply, refused, tooMany, answered, Listed, yesNo, Insert, Remove, Cleanup, Query}
+use Rattle.model.specs.declared.answers.Found.{Found}
+use Rattle.model.specs.Calls.{Reply, refused, tooMany, answered, yesNo, Insert, Remove, Cleanup, Query}
 use Rattle.lines.specs.Text.{answer}
 use Rattle.lines.specs.Lines.{LineOf}
 use Rattle.lines.specs.declared.line.Call.{Call}
@@ -48,7 +49,7 @@ pub record CleanupLine (w : World) (w′ : World) (bytes : List ℕ) : Type 0 wh
 
 -- 'Q,opened,hits,ids (no hits: the line ends after hits)'
 pub record QueryLine (w : World) (r : AABB) (row : List ℕ) (w′ : World) (row′ bytes : List ℕ) : Type 0 where
-  pub reply : Reply Listed
+  pub reply : Reply Found
   pub call : Query w r row w′ row′ reply
   pub line : bytes ≡ replyLine (λ l. answer 81 (l .opened ∷ l .hits ∷ take (l .hits) row′)) reply
 

@@ -12,7 +12,8 @@ use Rattle.geometry.specs.declared.aabb.AABB.{AABB}
 use Rattle.model.specs.declared.State.{State}
 use Rattle.model.specs.Shapes.{Shape, listed, opensFor, leaves}
 use Rattle.model.specs.Layout.{world, Holds}
-use Rattle.model.specs.Calls.{Reply, tooMany, answered, Listed, exit, carriedOut, queryRule, leavesRule}
+use Rattle.model.specs.declared.answers.Found.{Found}
+use Rattle.model.specs.Calls.{Reply, tooMany, answered, exit, carriedOut, queryRule, leavesRule}
 use Rattle.tree_query.specs.declared.walk.Found.{Found}
 use Rattle.tree_query.specs.declared.leaves.LeafListing.{LeafListing}
 use Rattle.tree_query.specs.declared.leaves.LeafListing.the-variants as leafListing
@@ -21,7 +22,7 @@ use Rattle.tree_query.specs.declared.query.Listing.the-variants as listi
 use Rattle.tree_query.specs.Rows.{keptAll}
 
 -- 8 'returns how many there are'; else 'intersecting ids .. and the nodes opened'
-abbrev pub listingReply : Listing → Reply Listed
+abbrev pub listingReply : Listing → Reply Found
 listingReply (listing.TooMany n) = tooMany n
 listingReply (listing.Listed hits opened) = answered (record { hits = hits; opened = opened })
 
@@ -35,7 +36,7 @@ Met s q nodes dots rects room row row′ r =
 unfoldable pub Counted : State → AABB → List ℕ → List ℕ → List ℤ → Found → Type 0
 Counted s q nodes dots rects r = (marks : List ℕ) (x : Shape) → Holds (world s nodes dots rects marks) x → r ≡ foundIn q x
 
-unfoldable pub Queried : State → AABB → List ℕ → List ℕ → List ℤ → List ℕ → List ℕ → Reply Listed → Type 0
+unfoldable pub Queried : State → AABB → List ℕ → List ℕ → List ℤ → List ℕ → List ℕ → Reply Found → Type 0
 Queried s q nodes dots rects row row′ reply =
     (marks : List ℕ) (x : Shape) → Holds (world s nodes dots rects marks) x
     → exit (world s nodes dots rects (replicate (length marks) 0)) row′ reply ≡ carriedOut (world s nodes dots rects marks) row (queryRule q (length row) x)

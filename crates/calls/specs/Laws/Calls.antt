@@ -12,7 +12,8 @@ use Rattle.geometry.specs.Settings.{rootRect}
 use Rattle.model.specs.declared.Dot.{Dot}
 use Rattle.model.specs.declared.State.{State}
 use Rattle.model.specs.Layout.{world}
-use Rattle.model.specs.Calls.{Reply, refused, answered, Listed, Query, All, Leaves, Insert, Remove, Cleanup, queryRule, leavesRule, insertRule, removeRule, cleanupRule}
+use Rattle.model.specs.declared.answers.Found.{Found}
+use Rattle.model.specs.Calls.{Reply, refused, answered, Query, All, Leaves, Insert, Remove, Cleanup, queryRule, leavesRule, insertRule, removeRule, cleanupRule}
 use Rattle.model.specs.Laws.Listing.{all-query}
 use Rattle.tree_check.specs.Checks.{Checked}
 use Rattle.tree.specs.Operations.{CarriedOut, HasTree}
@@ -29,7 +30,7 @@ module _ (s : State) (nodes dots : List ℕ) (rects : List ℤ) (marks marks′ 
     unfolding Query
     query-refused ne = call-refused s nodes dots rects marks marks′ answer c (queryRule q (length row)) row ne
 
-    pub query-answered : answer ≡ 0 → (row′ : List ℕ) (reply : Reply Listed) → Queried s q nodes dots rects row row′ reply
+    pub query-answered : answer ≡ 0 → (row′ : List ℕ) (reply : Reply Found) → Queried s q nodes dots rects row row′ reply
         → Query (world s nodes dots rects marks) q row (world s nodes dots rects marks′) row′ reply
     unfolding Query Queried
     query-answered z row′ reply done = call-carried s nodes dots rects marks marks′ answer c (queryRule q (length row)) row z s nodes dots rects row′ reply done
@@ -40,7 +41,7 @@ module _ (s : State) (nodes dots : List ℕ) (rects : List ℤ) (marks marks′ 
     pub all-refused : (answer ≡ 0 → ⊥) → All (world s nodes dots rects marks) row (world s nodes dots rects marks′) row (refused answer)
     all-refused ne = all-query _ _ _ _ _ .1 (query-refused (rootRect (s .settings)) row ne)
 
-    pub all-answered : answer ≡ 0 → (row′ : List ℕ) (reply : Reply Listed) → Queried s (rootRect (s .settings)) nodes dots rects row row′ reply
+    pub all-answered : answer ≡ 0 → (row′ : List ℕ) (reply : Reply Found) → Queried s (rootRect (s .settings)) nodes dots rects row row′ reply
         → All (world s nodes dots rects marks) row (world s nodes dots rects marks′) row′ reply
     all-answered z row′ reply done = all-query _ _ _ _ _ .1 (query-answered (rootRect (s .settings)) row z row′ reply done)
 

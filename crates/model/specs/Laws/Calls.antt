@@ -20,7 +20,8 @@ use Rattle.model.specs.Dots.{acceptableDot}
 use Rattle.model.specs.Trees.{size}
 use Rattle.model.specs.Shapes.{Shape, Valid, inserted, splitsMade, splitsNeeded, removed, foundBy, cleaned, cleans, listed, opensFor}
 use Rattle.model.specs.Layout.{World, Holds}
-use Rattle.model.specs.Calls.{Reply, tooMany, answered, refuse, overflow, accept, Exit, exit, carriedOut, Listed, insertRule, removeRule, cleanupRule, queryRule, Insert, Remove, Cleanup, Query}
+use Rattle.model.specs.declared.answers.Found.{Found}
+use Rattle.model.specs.Calls.{Reply, tooMany, answered, refuse, overflow, accept, Exit, exit, carriedOut, insertRule, removeRule, cleanupRule, queryRule, Insert, Remove, Cleanup, Query}
 use Rattle.model.specs.Book.{accepted}
 use borrow.Author.Tests.{eq-eqb, ltb-false}
 use Rattle.model.specs.Laws.Shapes.{live-and-free, inserted-valid, removed-valid, cleaned-valid}
@@ -109,7 +110,7 @@ cleanup-done w v reply call x h =
     let y = cleaned x in
     (subst (λ (u : World). Holds u y) (sym (world-of p)) (layout-holds y (cleaned-valid x (h .valid))), reply-of p)
 
-module _ (w : World) (q : AABB) (row : List ℕ) (v : World) (row′ : List ℕ) (reply : Reply Listed) (call : Query w q row v row′ reply) (x : Shape) (h : Holds w x) where
+module _ (w : World) (q : AABB) (row : List ℕ) (v : World) (row′ : List ℕ) (reply : Reply Found) (call : Query w q row v row′ reply) (x : Shape) (h : Holds w x) where
   pub query-exit : exit v row′ reply ≡ carriedOut w row (queryRule q (length row) x)
   unfolding Query
   query-exit = obeys-tree (queryRule q (length row)) w row (exit v row′ reply) call x h
@@ -126,7 +127,7 @@ module _ (w : World) (q : AABB) (row : List ℕ) (v : World) (row′ : List ℕ)
       → Holds v x × (reply ≡ answered (record { hits = length (listed q x); opened = opensFor q x })) × (row′ ≡ listed q x ++ drop (length (listed q x)) row)
   unfolding queryRule
   query-done e =
-      let a : Listed = record { hits = length (listed q x); opened = opensFor q x } in
+      let a : Found = record { hits = length (listed q x); opened = opensFor q x } in
       let z : queryRule q (length row) x ≡ accept x (listed q x) a = rw e refl in
       let p = query-exit ∙ ap (carriedOut w row) z in
       (subst (λ (u : World). Holds u x) (sym (world-of p)) (layout-holds x (h .valid)), reply-of p, row-of p)

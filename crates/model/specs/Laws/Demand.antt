@@ -28,7 +28,8 @@ use Rattle.model.specs.Cleanup.{isZero, turned}
 use Rattle.model.specs.Remove.{removeSays, removeAt}
 use Rattle.model.specs.Shapes.{Shape, Valid, fresh, inserted, removed, foundBy, cleaned, cleans, listed, opensFor, root, placedIn}
 use Rattle.model.specs.Layout.{World, groupsOf, placesOf, Holds}
-use Rattle.model.specs.Calls.{Reply, refused, tooMany, answered, Listed, Make, Cleanup, Query}
+use Rattle.model.specs.declared.answers.Found.{Found}
+use Rattle.model.specs.Calls.{Reply, refused, tooMany, answered, Make, Cleanup, Query}
 use Rattle.model.specs.Book.{Event, insert, remove, cleanup, query, Happens, Run, accepted, saidYes, without, entered, bookAfter, book, Has, Live, Fine, DistinctFrom, Quiet, cleanups, meeting, Exactly, Promise, Demand3}
 use borrow.Author.Tests.{leb-true}
 use Rattle.model.specs.Laws.Query.{hits-filter, opened-le, Clean, branches-le}
@@ -174,7 +175,7 @@ says (refused k) = false
 says (tooMany n) = false
 says (answered b) = b
 
-opensOf : Reply Listed → ℕ
+opensOf : Reply Found → ℕ
 opensOf (refused k) = 0
 opensOf (tooMany n) = 0
 opensOf (answered a) = a .opened
@@ -201,8 +202,8 @@ inv-exactly s w b I q =
       allThose = λ d h i. omega (arith, sum (d .id), has-hit q d b h i);
     }
 
-inv-lists : (s : Settings) (w : World) (b : List Dot) → Inv s w b → (q : AABB) (row row′ : List ℕ) (w′ : World) (reply : Reply Listed) → Query w q row w′ row′ reply
-    → length (meeting q b) ≤ length row → (a : Listed) × (reply ≡ answered a) × Exactly q b (take (a .hits) row′)
+inv-lists : (s : Settings) (w : World) (b : List Dot) → Inv s w b → (q : AABB) (row row′ : List ℕ) (w′ : World) (reply : Reply Found) → Query w q row w′ row′ reply
+    → length (meeting q b) ≤ length row → (a : Found) × (reply ≡ answered a) × Exactly q b (take (a .hits) row′)
 inv-lists s w b I q row row′ w′ reply call long =
     let x = I .x in
     let found = listed q x in
@@ -244,7 +245,7 @@ few s n q x v k t =
     )
 
 inv-opens : (s : Settings) (w : World) (b : List Dot) → Inv s w b → (es fs : List Event) (v w′ : World) → Run w (es ++ cleanup (answered false) ∷ fs) v → Quiet es → Quiet fs
-    → (q : AABB) (row row′ : List ℕ) (a : Listed) → Query v q row w′ row′ (answered a) → a .opened ≤ 1 + 5 * D s * length b
+    → (q : AABB) (row row′ : List ℕ) (a : Found) → Query v q row w′ row′ (answered a) → a .opened ≤ 1 + 5 * D s * length b
 unfolding says opensOf
 inv-opens s w b I es fs v w′ run qe qf q row row′ a call =
     let n = length b in
@@ -265,7 +266,7 @@ inv-opens s w b I es fs v w′ run qe qf q row row′ a call =
     (λ e. never (query-short v q row w′ row′ (answered a) call z (after .1) e .1))
     (λ e. let d = query-done v q row w′ row′ (answered a) call z (after .1) e in omega (arith, small, ap opensOf (d .1)))
   where
-    never : {X : Type 0} {a : Listed} {n : ℕ} → answered a ≡ tooMany n → X
+    never : {X : Type 0} {a : Found} {n : ℕ} → answered a ≡ tooMany n → X
     never p = true-false (ap accepted p)
 
 inv-cleanups : (s : Settings) (w : World) (b : List Dot) → Inv s w b → (es : List Event) (v w′ : World) (reply : Reply Bool) → Run w es v → Quiet es → D s ≤ cleanups es

@@ -20,7 +20,8 @@ use Rattle.model.specs.Trees.{Placed, atPlace, size, sumDots, dots, sumD
 use Rattle.model.specs.Query.{hits}
 use Rattle.model.specs.Shapes.{Shape, Valid, root, listed, references}
 use Rattle.model.specs.Layout.{World, Holds}
-use Rattle.model.specs.Calls.{Reply, Listed, carriedOut, queryRule, allRule, Query, All}
+use Rattle.model.specs.declared.answers.Found.{Found}
+use Rattle.model.specs.Calls.{Reply, carriedOut, queryRule, allRule, Query, All}
 use Rattle.model.specs.Laws.Query.{hits-filter}
 use Rattle.model.specs.Laws.Shapes.{below-le, sumOver-map, shape-routed}
 use Rattle.model.specs.Laws.Layout.{holds-settings}
@@ -56,7 +57,7 @@ unfolding references
 references-dots x = sym (sumDots-dots (λ d. 1) (x .tree)) ∙ sumOver-one (dots (x .tree))
 
 -- 'All: a query with the root's rectangle.'
-pub all-query : (w : World) (row : List ℕ) (w′ : World) (row′ : List ℕ) (reply : Reply Listed)
+pub all-query : (w : World) (row : List ℕ) (w′ : World) (row′ : List ℕ) (reply : Reply Found)
     → All w row w′ row′ reply ↔ Query w (rootRect (w .state .settings)) row w′ row′ reply
 unfolding Query All allRule
 all-query w row w′ row′ reply =

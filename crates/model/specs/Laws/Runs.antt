@@ -21,7 +21,8 @@ use Rattle.geometry.specs.Settings.{rootOf, contains, inRange}
 use Rattle.model.specs.declared.Dot.{Dot}
 use Rattle.model.specs.Shapes.{Shape, fresh, inserted, splitsMade, splitsNeeded, removed, foundBy, cleaned, cleans, listed, opensFor}
 use Rattle.model.specs.Layout.{World, groupsOf, placesOf, lengthsRight, layout, cleared, Holds}
-use Rattle.model.specs.Calls.{Reply, refused, tooMany, answered, refusal, Verdict, refuse, overflow, accept, carriedOut, Obeys, Listed, insertRule, removeRule, cleanupRule, queryRule, Make, Insert, Remove, Cleanup, Query}
+use Rattle.model.specs.declared.answers.Found.{Found}
+use Rattle.model.specs.Calls.{Reply, refused, tooMany, answered, refusal, Verdict, refuse, overflow, accept, carriedOut, Obeys, insertRule, removeRule, cleanupRule, queryRule, Make, Insert, Remove, Cleanup, Query}
 use Rattle.model.specs.Book.{Event, insert, remove, cleanup, query, Happens, Run, accepted}
 use Rattle.model.specs.Laws.Shapes.{fresh-valid}
 use Rattle.model.specs.Laws.Layout.{right-fits, layout-holds, holds-lengths, holds-settings}
@@ -108,7 +109,7 @@ module _ (w : World) (x : Shape) (h : Holds w x) where
       let call : Query w q row (cleared w) row a = on-tree (queryRule q (length row)) w row x h (overflow (length found)) (rw e refl) in
       (query q row row a, cleared w, x, call, query-holds w q row (cleared w) row a call x h, refl))
       (λ e.
-      let l : Listed = record { hits = length found; opened = opensFor q x } in
+      let l : Found = record { hits = length found; opened = opensFor q x } in
       let row′ = found ++ drop (length found) row in
       let call : Query w q row (layout x) row′ (answered l) = on-tree (queryRule q (length row)) w row x h (accept x found l) (rw e refl) in
       (query q row row′ (answered l), layout x, x, call, query-holds w q row (layout x) row′ (answered l) call x h, refl))

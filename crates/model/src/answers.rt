@@ -1,0 +1,53 @@
+// What the calls answer: one type a call, from the operation on the tree to the host. `Refused` has the refusal's number.
+use crate::State;
+
+// The state of the fresh tree.
+pub enum MakeAnswer {
+    Refused(u32),
+    Made(State),
+}
+
+// The number of splits, and the state after them.
+pub enum InsertAnswer {
+    Refused(u32),
+    Splits(u32, State),
+}
+
+// Yes, with the state after it; or no, and nothing is changed.
+pub enum RemoveAnswer {
+    Refused(u32),
+    Yes(State),
+    No,
+}
+
+// Whether a branch was turned, and the state after it.
+pub enum CleanupAnswer {
+    Refused(u32),
+    Done(bool, State),
+}
+
+// What a query finds: how many dots it meets, and how many nodes it opens.
+pub struct Found {
+    pub hits: u32,
+    pub opened: u32,
+}
+
+// Refusal 8, with how many ids there are; or what was found, whose ids the row now begins with.
+pub enum QueryAnswer {
+    Refused(u32),
+    TooMany(u32),
+    Listed(Found),
+}
+
+// Refusal 8, with how many leaves there are; or how many the row now begins with.
+pub enum LeavesAnswer {
+    Refused(u32),
+    TooMany(u32),
+    Listed(u32),
+}
+
+// The number of dots.
+pub enum ReferencesAnswer {
+    Refused(u32),
+    Count(u32),
+}
