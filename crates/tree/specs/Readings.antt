@@ -11,7 +11,7 @@ use Rattle.model.specs.Sums.{changed, changed-same, changed-other}
 use Rattle.model.specs.Memory.{Mem, read, firstAt, countAt, idAt, nextAt, rectAt, dotAt}
 use Rattle.memory.specs.declared.node.Node.{Node}
 use Rattle.memory.specs.Rows.{HasNode, HasPlace, HasRect, setNodeAt, setNextAt, setIdAt, setRectAt}
-use Rattle.memory.specs.Laws.{changed-by, first-set, count-set, next-set, id-set, id-next, next-id, rect-set}
+use Rattle.memory.specs.Laws.Stores.{changed-by, first-set, count-set, next-set, id-set, id-next, next-id, rect-set}
 use Rattle.tree.specs.Stores.{setFirst, setCount, setDot, setNext}
 
 -- a word that is stored as it was

@@ -4,7 +4,7 @@ use geometry::aabb::AABB;
 use geometry::node_data::NodeData;
 use geometry::settings::Settings;
 use memory::node::Node;
-use memory::words::node_at;
+use memory::node::node_at;
 
 // A leaf: the number of its node, and what a walk knows there.
 pub struct Leaf {

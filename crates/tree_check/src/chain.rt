@@ -3,8 +3,8 @@ ghost use Rattle.tree_check.specs.Regions.{passes};
 ghost use Rattle.tree_check.specs.Chains.{placeMemory, ChainReady, ChainScanned};
 use crate::region::Gate;
 use memory::node::Node;
-use memory::words::dot_at;
-use memory::words::next_at;
+use memory::places::dot_at;
+use memory::places::next_at;
 
 // Whether as many dots as the chain counts, each of which passes the gate, are chained from its first, at places of which none was marked; marks those that it meets.
 pub fn check_chain(

@@ -7,7 +7,7 @@ use crate::free::group_at;
 use crate::free::is_empty;
 use crate::region::Gate;
 use crate::region::Region;
-use memory::words::node_at;
+use memory::node::node_at;
 
 // Whether a tree as it should be stands at the node, of which nothing was marked; marks what it meets.
 pub fn check_node(

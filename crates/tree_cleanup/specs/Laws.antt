@@ -27,7 +27,7 @@ use Rattle.model.specs.Laws.Cleanup.{zero-is, children-empty}
 use Rattle.memory.specs.declared.node.Node.{Node}
 use Rattle.memory.specs.Nodes.{emptyLeaf}
 use Rattle.memory.specs.Rows.{HasNode, setNodeAt}
-use Rattle.memory.specs.Laws.{first-set, count-set, node-length, changed-by}
+use Rattle.memory.specs.Laws.Stores.{first-set, count-set, node-length, changed-by}
 use Rattle.tree.specs.Frames.{nodeCount, tree-frame}
 use Rattle.tree.specs.Collapses.{clean-nodes, Walk, collapse, cleanWords, Was, clean-got}
 use Rattle.tree.specs.Standing.{NodesIn, nodeTotal}

@@ -6,8 +6,8 @@ ghost use Rattle.tree.specs.Operations.{HasTree};
 ghost use Rattle.tree_cleanup.specs.Answers.{CleanedUp};
 ghost use Rattle.tree_cleanup.specs.Walks.{HasGroup, emptyGroup, turnedNodes, NodeWalk, NodeCleaned, GroupWalk, GroupCleaned};
 use memory::node::Node;
-use memory::words::node_at;
-use memory::words::set_node;
+use memory::node::node_at;
+use memory::node::set_node;
 use model::State;
 
 // The head of the free groups, and how many branches were turned.

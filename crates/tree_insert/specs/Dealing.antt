@@ -19,7 +19,7 @@ use Rattle.model.specs.Insert.{routeDot}
 use Rattle.model.specs.Memory.{Mem, read, firstAt, countAt, nextAt, rectAt}
 use Rattle.memory.specs.declared.node.Node.{Node}
 use Rattle.memory.specs.Rows.{HasNode, HasPlace, HasRect, setNodeAt, setNextAt}
-use Rattle.memory.specs.Laws.{node-length, next-length, next-set, id-next, count-set}
+use Rattle.memory.specs.Laws.Stores.{node-length, next-length, next-set, id-next, count-set}
 use Rattle.tree.specs.Stores.{setNext}
 use Rattle.tree.specs.Chains.{Standing}
 use Rattle.tree.specs.Splits.{dealWords}

@@ -28,7 +28,7 @@ use Rattle.model.specs.Laws.Insert.{splitCount, insert-sum}
 use Rattle.model.specs.Laws.Shapes.{below-no, live-and-free, valid-height, inserted-valid}
 use Rattle.model.specs.Laws.Memory.{holds-represented}
 use Rattle.memory.specs.Rows.{HasNode, HasPlace, HasRect, setNodeAt, setNextAt, setIdAt, setRectAt}
-use Rattle.memory.specs.Laws.{node-length, next-length, id-length, rect-length}
+use Rattle.memory.specs.Laws.Stores.{node-length, next-length, id-length, rect-length}
 use Rattle.tree.specs.declared.find.Leaf.{Leaf}
 use Rattle.tree.specs.Paths.{put}
 use Rattle.tree.specs.Paths as paths

@@ -20,7 +20,7 @@ use Rattle.model.specs.Laws.Shapes.{below-le}
 use Rattle.memory.specs.declared.node.Node.{Node}
 use Rattle.memory.specs.Nodes.{nodeAt, emptyLeaf}
 use Rattle.memory.specs.Rows.{HasNode, setNodeAt}
-use Rattle.memory.specs.Laws.{node-length, count-set}
+use Rattle.memory.specs.Laws.Stores.{node-length, count-set}
 use Rattle.tree.specs.Frames.{sumNodes, nodeCount}
 use Rattle.tree.specs.Paths.{Children, sub, sumDots-sub, sumNodes-sub}
 use Rattle.tree.specs.Paths as paths

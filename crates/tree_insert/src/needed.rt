@@ -16,9 +16,9 @@ use geometry::bounds::Bounds;
 use geometry::node_data::NodeData;
 use geometry::settings::Settings;
 use memory::node::Node;
+use memory::node::node_at;
+use memory::places::next_at;
 use memory::places::rect_at;
-use memory::words::next_at;
-use memory::words::node_at;
 
 // Whether the free groups from a head on are at least so many; walks no further.
 pub fn has_free(nodes: &[u32], head: u32, wanted: u32) -> bool

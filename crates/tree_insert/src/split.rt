@@ -11,11 +11,11 @@ ghost use Rattle.tree_insert.specs.Growing.{CanGo, Gone};
 use geometry::aabb::AABB;
 use geometry::centered_aabb::CenteredAABB;
 use memory::node::Node;
+use memory::node::node_at;
+use memory::node::set_node;
+use memory::places::next_at;
 use memory::places::rect_at;
-use memory::words::next_at;
-use memory::words::node_at;
-use memory::words::set_next;
-use memory::words::set_node;
+use memory::places::set_next;
 use tree::find::Leaf;
 
 // Puts a place at the head of a leaf's chain.

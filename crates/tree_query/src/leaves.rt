@@ -6,7 +6,7 @@ ghost use Rattle.tree_query.specs.Rows.{kept, keptAll};
 ghost use Rattle.tree_query.specs.Answers.{LeavesMet, LeavesListed, leafReply};
 ghost use Rattle.tree_query.specs.Leaves.{wordsOf, LeafWalk, LeafGroup, LeafWalked, LeafGroupWalked};
 use geometry::node_data::NodeData;
-use memory::words::node_at;
+use memory::node::node_at;
 use model::State;
 ghost use Rattle.tree.specs.Operations.{HasTree};
 

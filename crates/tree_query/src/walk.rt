@@ -10,10 +10,10 @@ use geometry::aabb::AABB;
 use geometry::centered_aabb::CenteredAABB;
 use geometry::quadrants::Quadrants;
 use memory::node::Node;
+use memory::node::node_at;
+use memory::places::dot_at;
+use memory::places::next_at;
 use memory::places::reaches;
-use memory::words::dot_at;
-use memory::words::next_at;
-use memory::words::node_at;
 use model::Dot;
 
 // What a walk has met: the dots that intersect, and the nodes opened.

@@ -30,7 +30,7 @@ use Rattle.model.specs.Laws.Memory.{holds-represented}
 use Rattle.memory.specs.declared.node.Node.{Node}
 use Rattle.memory.specs.Nodes.{nodeAt}
 use Rattle.memory.specs.Rows.{HasNode, HasPlace, HasRect, setNodeAt, setNextAt, setIdAt, setRectAt}
-use Rattle.memory.specs.Laws.{node-length, next-length, id-length, rect-length}
+use Rattle.memory.specs.Laws.Stores.{node-length, next-length, id-length, rect-length}
 use Rattle.tree.specs.declared.find.Leaf.{Leaf}
 use Rattle.tree_remove.specs.declared.Hit.{Hit}
 use Rattle.tree.specs.Operations.{same-marks, shaped-exit}

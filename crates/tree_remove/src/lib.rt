@@ -12,12 +12,12 @@ ghost use Rattle.tree_remove.specs.Search.{Searchable, hitIn, Linked, un
 ghost use Rattle.tree_remove.specs.Answers.{removedState, removedReply};
 use geometry::aabb::AABB;
 use memory::node::Node;
+use memory::node::node_at;
+use memory::node::set_node;
 use memory::places::id_at;
-use memory::words::next_at;
-use memory::words::node_at;
-use memory::words::set_dot;
-use memory::words::set_next;
-use memory::words::set_node;
+use memory::places::next_at;
+use memory::places::set_dot;
+use memory::places::set_next;
 use model::Dot;
 use model::State;
 use tree::find::find_leaf;

@@ -1,0 +1,23 @@
+-- Each row holds its fresh words: the loops' promises are those of the layout.
+use borrow.Author.Needs.{needs}
+use Rattle.memory.specs.Laws.Lengths.{nodes-stated, places-stated}
+use Rattle.memory.specs.Laws.Fresh.{fresh-written}
+use Rattle.memory.proofs.fresh.make_fresh.Statement.{statement}
+use Rattle.memory.proofs.fresh.make_fresh.Tie as tie
+
+returns : tie.Need-returns
+returns c =
+    let placed : tie.After-make-places = search in
+    let noded : tie.After-make-nodes = search in
+    let start : tie.Start = search in
+    let a = start .args in
+    search (fresh-written (a .settings) (a .nodes .now) (a .dots .now) (a .rects .now) (a .marks .now))
+
+pub make-fresh-spec : {M : Type 1} → statement M
+make-fresh-spec =
+    tie.close
+    (tie.spec
+    -- the rows
+    (λ c κs. search nodes-stated) (λ c κs. search places-stated) (λ c κs. search needs)
+    -- the state
+    (λ c κs. search needs) (λ c. search needs) (λ c. search needs) (λ c. search needs) (λ c. search needs) returns)

@@ -1,0 +1,95 @@
+-- The loop's invariant: the places before `place` hold their fresh words. The measure is the places that are left.
+use mathlib.Core.Path.{_≡_, refl, _∙_}
+use Prim.Native.Nat.{ℕ, _-_, _≤_, _<_}
+use native.Mathlib.Omega.{arith}
+use lib.ListN.{length}
+use Rattle.model.specs.Dots.{zeroDot}
+use Rattle.model.specs.Memory.{dotAt, nextAt}
+use Rattle.memory.specs.Fresh.{freshNext}
+use Rattle.memory.specs.Laws.Fresh.{fresh-place-more}
+use Rattle.memory.proofs.fresh.make_places.Statement.{statement}
+use Rattle.memory.proofs.fresh.make_places.Tie as tie
+
+abbrev Inv-loop : tie.InvT-loop
+Inv-loop dots₀ rects₀ places place₀ dots rects place =
+    (length dots ≡ length dots₀) × (length rects ≡ length rects₀) × (place ≤ places)
+    × ((k : ℕ) → k < place → (dotAt dots rects k ≡ zeroDot) × (nextAt dots k ≡ freshNext places k))
+
+abbrev μ-loop : tie.MeasureT-loop
+μ-loop dots₀ rects₀ places place₀ dots rects place = places - place
+
+loop-holds : tie.Need-loop-holds Inv-loop μ-loop
+loop-holds c = (refl, refl, omega arith, λ k b. absurd (omega arith))
+
+set-dot-requires : tie.Need-set-dot-requires Inv-loop μ-loop
+set-dot-requires c κs =
+    let c2 = c .before .before in
+    let c3 = c2 .before in
+    let c5 = c3 .before .before in
+    (omega (arith, c5 .pre .1, c2 .loop-test .taken, c3 .loop .inv .0), omega (arith, c5 .pre .2, c2 .loop-test .taken, c3 .loop .inv .1))
+
+fresh-next-requires : tie.Need-fresh-next-requires Inv-loop μ-loop
+fresh-next-requires c κs =
+    let c7 = c .before .before .before .before .before .before .before in
+    let c10 = c7 .before .before .before in
+    omega (arith, c10 .pre .0, c7 .loop-test .taken)
+
+set-next-requires : tie.Need-set-next-requires Inv-loop μ-loop
+set-next-requires c κs =
+    let c5 = c .before .before .before .before .before in
+    let c8 = c5 .before .before .before in
+    let c9 = c8 .before in
+    let c11 = c9 .before .before in
+    omega (arith, c11 .pre .1, c8 .loop-test .taken, c9 .loop .inv .0, c5 .set-dot .kept .0)
+
+add-place : tie.Need-add-place Inv-loop μ-loop
+add-place c =
+    let c11 = c .before .before .before .before .before .before .before .before .before .before .before in
+    let c14 = c11 .before .before .before in
+    omega (arith, c14 .pre .0, c11 .loop-test .taken)
+
+loop-less : tie.Need-loop-less Inv-loop μ-loop
+loop-less c =
+    omega (arith, c .before .before .before .before .before .before .before .before .before .before .before .loop-test .taken)
+
+loop-again : tie.Need-loop-again Inv-loop μ-loop
+loop-again c =
+    let c2 = c .before .before in
+    let c3 = c2 .before in
+    let c8 = c3 .before .before .before .before .before in
+    let c11 = c8 .before .before .before in
+    let c12 = c11 .before in
+    let c14 = c12 .before .before in
+    let has = c12 .loop .inv in
+    let place : _ < _ = c11 .loop-test .taken in (
+      c2 .set-next .kept .0 ∙ c8 .set-dot .kept .0 ∙ has .0,
+      c8 .set-dot .kept .1 .0 ∙ has .1,
+      omega (arith, c11 .loop-test .taken),
+      λ k b. rw (c2 .set-next .ensures, c8 .set-dot .ensures .0, c8 .set-dot .ensures .1) (fresh-place-more _ _ _ _ (omega (arith, c14 .pre .1, has .0)) (omega (arith, c14 .pre .2, has .1)) (has .3) _ (c3 .fresh-next .ensures) k b),
+    )
+
+same-length : tie.Need-same-length Inv-loop μ-loop
+same-length c = c .before .loop .inv .0
+
+same-length-2 : tie.Need-same-length-2 Inv-loop μ-loop
+same-length-2 c = c .before .loop .inv .1
+
+returns : tie.Need-returns Inv-loop μ-loop
+returns c = λ p b. c .before .loop .inv .3 p (omega (arith, c .loop-test .left))
+
+pub make-places-spec : {M : Type 1} → statement M
+make-places-spec =
+    tie.close
+    (tie.spec
+    Inv-loop
+    μ-loop
+    loop-holds
+    set-dot-requires
+    fresh-next-requires
+    set-next-requires
+    add-place
+    loop-less
+    loop-again
+    same-length
+    same-length-2
+    returns)
