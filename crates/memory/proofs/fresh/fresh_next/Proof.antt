@@ -6,15 +6,6 @@ use borrow.Author.Needs.{needs}
 use Rattle.memory.proofs.fresh.fresh_next.Statement.{statement}
 use Rattle.memory.proofs.fresh.fresh_next.Tie as tie
 
-add-if1 : tie.Need-add-if1
-add-if1 c = search needs
-
-add-result : tie.Need-add-result
-add-result c = search needs
-
-cast-result : tie.Need-cast-result
-cast-result c = search needs
-
 returns : tie.Need-returns
 unfolding freshNext
 returns c = rw (lt-ltb _ _ (c .if1 .taken))
@@ -24,4 +15,5 @@ unfolding freshNext none
 returns-2 c = rw (le-ltb _ _ (c .if1 .left))
 
 pub fresh-next-spec : {M : Type 1} → statement M
-fresh-next-spec = tie.close (tie.spec add-if1 add-result cast-result returns returns-2)
+fresh-next-spec = tie.close (tie.spec
+    (λ c. search needs) (λ c. search needs) (λ c. search needs) returns returns-2)

@@ -4,12 +4,6 @@ use borrow.Author.Needs.{needs}
 use Rattle.memory.proofs.fresh.fresh_state.Statement.{statement}
 use Rattle.memory.proofs.fresh.fresh_state.Tie as tie
 
-head-requires : tie.Need-head-requires
-head-requires c κs = search needs
-
-head-requires-2 : tie.Need-head-requires-2
-head-requires-2 c κs = search needs
-
 returns : tie.Need-returns
 unfolding freshState
 returns c =
@@ -18,4 +12,5 @@ returns c =
     λ i. record { settings = c2 .args .settings; «free_group» = c1 .head .ensures i; «free_place» = c .head2 .ensures i; live = 0 }
 
 pub fresh-state-spec : {M : Type 1} → statement M
-fresh-state-spec = tie.close (tie.spec head-requires head-requires-2 returns)
+fresh-state-spec = tie.close (tie.spec
+    (λ c κs. search needs) (λ c κs. search needs) returns)

@@ -26,37 +26,34 @@ add-loop c = omega (arith, c .before .before .pre .0)
 
 fresh-node-requires : tie.Need-fresh-node-requires Inv-loop μ-loop
 fresh-node-requires c κs =
-    let c1 = c .before in
-    let c4 = c1 .before .before .before in
-    omega (arith, c4 .pre .0, c1 .loop-test .taken)
+    let at-start : tie.Start Inv-loop μ-loop = search in
+    omega (arith, at-start .pre .0, c .before .loop-test .taken)
 
 set-node-requires : tie.Need-set-node-requires Inv-loop μ-loop
 set-node-requires c κs =
-    let c2 = c .before .before in
-    let c3 = c2 .before in
-    let c5 = c3 .before .before in
-    omega (arith, c5 .pre .1, c2 .loop-test .taken, c3 .loop .inv .0)
+    let at-start : tie.Start Inv-loop μ-loop = search in
+    omega (arith, at-start .pre .1, c .before .before .loop-test .taken, c .before .before .before .loop .inv .0)
 
 add-node : tie.Need-add-node Inv-loop μ-loop
 add-node c =
-    let c5 = c .before .before .before .before .before in
-    let c8 = c5 .before .before .before in
-    omega (arith, c8 .pre .0, c5 .loop-test .taken)
+    let at-loop : tie.In-loop Inv-loop μ-loop = search in
+    let at-start : tie.Start Inv-loop μ-loop = search in
+    omega (arith, at-start .pre .0, at-loop .loop-test .taken)
 
 loop-less : tie.Need-loop-less Inv-loop μ-loop
-loop-less c = omega (arith, c .before .before .before .before .before .loop-test .taken)
+loop-less c =
+    let at-loop : tie.In-loop Inv-loop μ-loop = search in
+    omega (arith, at-loop .loop-test .taken)
 
 loop-again : tie.Need-loop-again Inv-loop μ-loop
 loop-again c =
-    let c2 = c .before .before in
-    let c3 = c2 .before in
-    let c5 = c3 .before .before in
-    let c6 = c5 .before in
-    let c8 = c6 .before .before in
-    let has = c6 .loop .inv in (
-      c2 .set-node .kept .0 ∙ has .0,
-      omega (arith, c5 .loop-test .taken),
-      λ k b. rw (c2 .set-node .ensures) (fresh-node-more _ _ _ (omega (arith, c8 .pre .1, c5 .loop-test .taken, has .0)) (has .2) _ (c3 .fresh-node .ensures) k b),
+    let at-loop : tie.In-loop Inv-loop μ-loop = search in
+    let at-loop' : tie.At-loop Inv-loop μ-loop = search in
+    let at-start : tie.Start Inv-loop μ-loop = search in
+    let has = at-loop' .loop .inv in (
+      c .before .before .set-node .kept .0 ∙ has .0,
+      omega (arith, at-loop .loop-test .taken),
+      λ k b. rw (c .before .before .set-node .ensures) (fresh-node-more _ _ _ (omega (arith, at-start .pre .1, at-loop .loop-test .taken, has .0)) (has .2) _ (c .before .before .before .fresh-node .ensures) k b),
     )
 
 same-length : tie.Need-same-length Inv-loop μ-loop

@@ -23,49 +23,46 @@ loop-holds c = (refl, refl, omega arith, λ k b. absurd (omega arith))
 
 set-dot-requires : tie.Need-set-dot-requires Inv-loop μ-loop
 set-dot-requires c κs =
-    let c2 = c .before .before in
-    let c3 = c2 .before in
-    let c5 = c3 .before .before in
-    (omega (arith, c5 .pre .1, c2 .loop-test .taken, c3 .loop .inv .0), omega (arith, c5 .pre .2, c2 .loop-test .taken, c3 .loop .inv .1))
+    let at-start : tie.Start Inv-loop μ-loop = search in
+    (omega (arith, at-start .pre .1, c .before .before .loop-test .taken, c .before .before .before .loop .inv .0), omega (arith, at-start .pre .2, c .before .before .loop-test .taken, c .before .before .before .loop .inv .1))
 
 fresh-next-requires : tie.Need-fresh-next-requires Inv-loop μ-loop
 fresh-next-requires c κs =
-    let c7 = c .before .before .before .before .before .before .before in
-    let c10 = c7 .before .before .before in
-    omega (arith, c10 .pre .0, c7 .loop-test .taken)
+    let at-loop : tie.In-loop Inv-loop μ-loop = search in
+    let at-start : tie.Start Inv-loop μ-loop = search in
+    omega (arith, at-start .pre .0, at-loop .loop-test .taken)
 
 set-next-requires : tie.Need-set-next-requires Inv-loop μ-loop
 set-next-requires c κs =
-    let c5 = c .before .before .before .before .before in
-    let c8 = c5 .before .before .before in
-    let c9 = c8 .before in
-    let c11 = c9 .before .before in
-    omega (arith, c11 .pre .1, c8 .loop-test .taken, c9 .loop .inv .0, c5 .set-dot .kept .0)
+    let at-set-dot : tie.After-set-dot Inv-loop μ-loop = search in
+    let at-loop : tie.In-loop Inv-loop μ-loop = search in
+    let at-loop' : tie.At-loop Inv-loop μ-loop = search in
+    let at-start : tie.Start Inv-loop μ-loop = search in
+    omega (arith, at-start .pre .1, at-loop .loop-test .taken, at-loop' .loop .inv .0, at-set-dot .set-dot .kept .0)
 
 add-place : tie.Need-add-place Inv-loop μ-loop
 add-place c =
-    let c11 = c .before .before .before .before .before .before .before .before .before .before .before in
-    let c14 = c11 .before .before .before in
-    omega (arith, c14 .pre .0, c11 .loop-test .taken)
+    let at-loop : tie.In-loop Inv-loop μ-loop = search in
+    let at-start : tie.Start Inv-loop μ-loop = search in
+    omega (arith, at-start .pre .0, at-loop .loop-test .taken)
 
 loop-less : tie.Need-loop-less Inv-loop μ-loop
 loop-less c =
-    omega (arith, c .before .before .before .before .before .before .before .before .before .before .before .loop-test .taken)
+    let at-loop : tie.In-loop Inv-loop μ-loop = search in
+    omega (arith, at-loop .loop-test .taken)
 
 loop-again : tie.Need-loop-again Inv-loop μ-loop
 loop-again c =
-    let c2 = c .before .before in
-    let c3 = c2 .before in
-    let c8 = c3 .before .before .before .before .before in
-    let c11 = c8 .before .before .before in
-    let c12 = c11 .before in
-    let c14 = c12 .before .before in
-    let has = c12 .loop .inv in
-    let place : _ < _ = c11 .loop-test .taken in (
-      c2 .set-next .kept .0 ∙ c8 .set-dot .kept .0 ∙ has .0,
-      c8 .set-dot .kept .1 .0 ∙ has .1,
-      omega (arith, c11 .loop-test .taken),
-      λ k b. rw (c2 .set-next .ensures, c8 .set-dot .ensures .0, c8 .set-dot .ensures .1) (fresh-place-more _ _ _ _ (omega (arith, c14 .pre .1, has .0)) (omega (arith, c14 .pre .2, has .1)) (has .3) _ (c3 .fresh-next .ensures) k b),
+    let at-set-dot : tie.After-set-dot Inv-loop μ-loop = search in
+    let at-loop : tie.In-loop Inv-loop μ-loop = search in
+    let at-loop' : tie.At-loop Inv-loop μ-loop = search in
+    let at-start : tie.Start Inv-loop μ-loop = search in
+    let has = at-loop' .loop .inv in
+    let place : _ < _ = at-loop .loop-test .taken in (
+      c .before .before .set-next .kept .0 ∙ at-set-dot .set-dot .kept .0 ∙ has .0,
+      at-set-dot .set-dot .kept .1 .0 ∙ has .1,
+      omega (arith, at-loop .loop-test .taken),
+      λ k b. rw (c .before .before .set-next .ensures, at-set-dot .set-dot .ensures .0, at-set-dot .set-dot .ensures .1) (fresh-place-more _ _ _ _ (omega (arith, at-start .pre .1, has .0)) (omega (arith, at-start .pre .2, has .1)) (has .3) _ (c .before .before .before .fresh-next .ensures) k b),
     )
 
 same-length : tie.Need-same-length Inv-loop μ-loop
