@@ -1,5 +1,4 @@
 -- Insert: what its code looks up and stores, in the order of the code.
---     Answers      the answer, and what it says
 --     FreeLists    the walk along the free groups
 --     Counting     the splits needed
 --     Dealing, Splitting   the deal of a chain, the split of a leaf
@@ -7,7 +6,6 @@
 --     Arrivals     the insert at the leaf that the dot routes to
 --     Landings     the push, and the whole insert
 --     Refusals     4 to 7, and the insert that is not refused
-pub mod Answers
 pub mod FreeLists
 pub mod Counting
 pub mod Dealing

@@ -5,9 +5,9 @@ ghost use Prim.Native.Nat.{ℕ, _+_};
 ghost use Rattle.model.specs.Shapes.{Shape, inserted};
 ghost use Rattle.model.specs.Layout.{world, Holds};
 ghost use Rattle.model.specs.Calls.{insertRule};
+ghost use Rattle.model.specs.Answers.{insertState, insertReply};
 ghost use lib.ListN.{length, replicate};
 ghost use Rattle.tree.specs.Operations.{IsTree, CarriedOut};
-ghost use Rattle.tree_insert.specs.Answers.{insertedState, insertedReply};
 ghost use Rattle.tree_insert.specs.Landings.{Lands, Starts, CanInsert, pushedNodes, pushedDots, pushedRects};
 
 mod needed;
@@ -22,14 +22,9 @@ use memory::places::next_at;
 use memory::places::set_dot;
 use model::Dot;
 use model::State;
+use model::answers::InsertAnswer;
 use tree::find::Leaf;
 use tree::find::find_leaf;
-
-// Refused, with document 01's number; or done, with the splits and the state after it.
-pub enum Inserted {
-    Refused(u32),
-    Done(u32, State),
-}
 
 // Puts a dot at a place, and the place at the head of a leaf's chain.
 fn push_dot(
@@ -50,12 +45,12 @@ fn push_dot(
 // Inserts a dot at the leaf that it routes to, with the splits that it needs; the state after it.
 fn insert_at(
     state: State,
-    dot: Dot,
-    leaf: Leaf,
-    splits: u32,
     nodes: &mut [u32],
     dots: &mut [u32],
     rects: &mut [i32],
+    dot: Dot,
+    leaf: Leaf,
+    splits: u32,
 ) -> State
     requires { ⌜ CanInsert state dot (now nodes) (now dots) (now rects) leaf splits ⌝ }
     ensures { λ r. ⌜ ((marks : List ℕ) (x : Shape) → Starts state dot (now (nodes .entry)) (now (dots .entry)) (now (rects .entry)) leaf splits marks x → Holds (world r (now (nodes .exit)) (now (dots .exit)) (now (rects .exit)) (replicate (length marks) 0)) (inserted dot x)) ⌝ }
@@ -70,35 +65,35 @@ fn insert_at(
 // Inserts a dot: refusals 4 to 7 store nothing, and the answer is the number of splits.
 pub fn insert_dot(
     state: State,
-    dot: Dot,
     nodes: &mut [u32],
     dots: &mut [u32],
     rects: &mut [i32],
-) -> Inserted
+    dot: Dot,
+) -> InsertAnswer
     requires { ⌜ IsTree state (now nodes) (now dots) (now rects) ⌝ }
-    ensures { λ r. ⌜ CarriedOut (insertRule dot) state (now (nodes .entry)) (now (dots .entry)) (now (rects .entry)) (insertedState state r) (now (nodes .exit)) (now (dots .exit)) (now (rects .exit)) (insertedReply r) ⌝ }
+    ensures { λ r. ⌜ CarriedOut (insertRule dot) state (now (nodes .entry)) (now (dots .entry)) (now (rects .entry)) (insertState state r) (now (nodes .exit)) (now (dots .exit)) (now (rects .exit)) (insertReply r) ⌝ }
 {
     let settings = state.settings;
     let rect = dot.rect;
     if rect.is_inverted() | rect.is_far_out() {
-        return Inserted::Refused(4);
+        return InsertAnswer::Refused(4);
     }
     if !settings.root().contains(rect) {
-        return Inserted::Refused(5);
+        return InsertAnswer::Refused(5);
     }
     // The live dots, with this one.
     let live = state.live as usize + 1;
     if dots.len() / 2 < live {
-        return Inserted::Refused(6);
+        return InsertAnswer::Refused(6);
     }
     let leaf = find_leaf(settings, nodes, rect);
     let chain = node_at(nodes, leaf.node);
     let splits = splits_needed(settings, dots, rects, chain, leaf.node_data, rect);
     if !has_free(nodes, state.free_group, splits) {
-        return Inserted::Refused(7);
+        return InsertAnswer::Refused(7);
     }
-    Inserted::Done(
+    InsertAnswer::Splits(
         splits,
-        insert_at(state, dot, leaf, splits, nodes, dots, rects),
+        insert_at(state, nodes, dots, rects, dot, leaf, splits),
     )
 }

@@ -6,10 +6,10 @@ ghost use Rattle.model.specs.Dots.{zeroDot};
 ghost use Rattle.model.specs.Layout.{none};
 ghost use Rattle.model.specs.Trees.{Placed};
 ghost use Rattle.model.specs.Calls.{removeRule};
+ghost use Rattle.model.specs.Answers.{removeState, removeReply};
 ghost use Rattle.memory.specs.Rows.{HasNode, HasPlace, HasRect, setNodeAt, setNextAt, setIdAt, setRectAt};
 ghost use Rattle.tree.specs.Operations.{IsTree, CarriedOut};
 ghost use Rattle.tree_remove.specs.Search.{Searchable, hitIn, Linked, unlinkedNode, unlinkedDots};
-ghost use Rattle.tree_remove.specs.Answers.{removedState, removedReply};
 use geometry::aabb::AABB;
 use memory::node::Node;
 use memory::node::node_at;
@@ -20,13 +20,8 @@ use memory::places::set_dot;
 use memory::places::set_next;
 use model::Dot;
 use model::State;
+use model::answers::RemoveAnswer;
 use tree::find::find_leaf;
-
-// Yes, with the state after it; or no, and nothing is changed.
-pub enum Removed {
-    Yes(State),
-    No,
-}
 
 // Where a dot stands in its chain, and the place before it; no place is none.
 pub struct Hit {
@@ -105,24 +100,24 @@ fn free_place(dots: &mut [u32], rects: &mut [i32], place: usize, head: u32)
 // Removes the first dot with an id in the leaf that a rectangle routes to; the dot's own rectangle isn't compared.
 pub fn remove_dot(
     state: State,
-    id: u32,
-    rect: AABB,
     nodes: &mut [u32],
     dots: &mut [u32],
     rects: &mut [i32],
-) -> Removed
+    id: u32,
+    rect: AABB,
+) -> RemoveAnswer
     requires { ⌜ IsTree state (now nodes) (now dots) (now rects) ⌝ }
-    ensures { λ r. ⌜ CarriedOut (removeRule id rect) state (now (nodes .entry)) (now (dots .entry)) (now (rects .entry)) (removedState state r) (now (nodes .exit)) (now (dots .exit)) (now (rects .exit)) (removedReply r) ⌝ }
+    ensures { λ r. ⌜ CarriedOut (removeRule id rect) state (now (nodes .entry)) (now (dots .entry)) (now (rects .entry)) (removeState state r) (now (nodes .exit)) (now (dots .exit)) (now (rects .exit)) (removeReply r) ⌝ }
 {
     let settings = state.settings;
     let node = find_leaf(settings, nodes, rect).node;
     let leaf = node_at(nodes, node);
     let hit = find_dot(dots, leaf, id);
     if hit.place == Node::NONE {
-        return Removed::No;
+        return RemoveAnswer::No;
     }
     let place = hit.place;
     unlink(nodes, dots, node, leaf, hit);
     free_place(dots, rects, place as usize, state.free_place);
-    Removed::Yes(state.changed(state.free_group, place, state.live - 1))
+    RemoveAnswer::Yes(state.changed(state.free_group, place, state.live - 1))
 }
