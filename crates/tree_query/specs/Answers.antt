@@ -1,8 +1,7 @@
 -- What the reading calls leave, for every marks and every shape that the words hold.
---     listingReply a query's answer as document 01 gives it
 --     Met, Counted what the walk of the whole tree lists and counts
 --     Queried      what a query leaves, by its rule
---     leafReply, HasTree, LeavesMet, LeavesListed  the same of the leaves, for which the nodes are enough
+--     LeavesMet, LeavesListed  the same of the leaves, for which the nodes are enough
 use mathlib.Core.Path.{_≡_}
 use mathlib.Core.List.{List}
 use Prim.Native.Nat.{ℕ}
@@ -13,18 +12,8 @@ use Rattle.model.specs.declared.State.{State}
 use Rattle.model.specs.Shapes.{Shape, listed, opensFor, leaves}
 use Rattle.model.specs.Layout.{world, Holds}
 use Rattle.model.specs.declared.answers.Found.{Found}
-use Rattle.model.specs.Calls.{Reply, tooMany, answered, exit, carriedOut, queryRule, leavesRule}
-use Rattle.tree_query.specs.declared.walk.Found.{Found}
-use Rattle.tree_query.specs.declared.leaves.LeafListing.{LeafListing}
-use Rattle.tree_query.specs.declared.leaves.LeafListing.the-variants as leafListing
-use Rattle.tree_query.specs.declared.query.Listing.{Listing}
-use Rattle.tree_query.specs.declared.query.Listing.the-variants as listing
+use Rattle.model.specs.Calls.{Reply, exit, carriedOut, queryRule, leavesRule}
 use Rattle.tree_query.specs.Rows.{keptAll}
-
--- 8 'returns how many there are'; else 'intersecting ids .. and the nodes opened'
-abbrev pub listingReply : Listing → Reply Found
-listingReply (listing.TooMany n) = tooMany n
-listingReply (listing.Listed hits opened) = answered (record { hits = hits; opened = opened })
 
 abbrev pub foundIn : AABB → Shape → Found
 foundIn q x = record { hits = length (listed q x); opened = opensFor q x }
@@ -42,11 +31,6 @@ Queried s q nodes dots rects row row′ reply =
     → exit (world s nodes dots rects (replicate (length marks) 0)) row′ reply ≡ carriedOut (world s nodes dots rects marks) row (queryRule q (length row) x)
 
 -- ---- leaves
-
--- 8 'a leaf is one answer'; else how many leaves there are
-abbrev pub leafReply : LeafListing → Reply ℕ
-leafReply (leafListing.TooMany n) = tooMany n
-leafReply (leafListing.Listed n) = answered n
 
 unfoldable pub LeavesMet : State → List ℕ → ℕ → List ℤ → List ℤ → ℕ → Type 0
 LeavesMet s nodes room row row′ r =

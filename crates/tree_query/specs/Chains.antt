@@ -1,18 +1,20 @@
 -- The walk of a chain: what is left to list, at each turn of the loop.
---     dot-missed, dot-hit  one dot
+--     dot-unreached, dot-missed, dot-hit   one dot
 --     Rest         what has been listed and what is left make the whole
 --     rest-start, rest-turn, rest-end      the loop's three steps
---     rest-place   the place that a turn reads is in the rows
+--     rest-place, rest-room        what a turn asks: the place that it reads is in the rows, and the row has room
 use mathlib.Core.Path.{_≡_, refl, ap, sym, _∙_, subst}
 use mathlib.Core.List.{List, [], _∷_, map}
-use mathlib.Core.Bool.{true, false, cond}
+use mathlib.Core.Bool.{Bool, true, false, not, cond}
 use Prim.Native.Nat.{ℕ, _+_, _-_, _≤_, _<_}
 use native.Mathlib.Omega.{arith}
 use lib.IntN.{ℤ}
 use lib.ListN.{length}
+use borrow.Author.Tests.{not-true, not-false}
 use Rattle.arithmetic.specs.Tests.{byBool}
 use Rattle.geometry.specs.declared.aabb.AABB.{AABB}
-use Rattle.geometry.specs.Rectangles.{intersects}
+use Rattle.geometry.specs.Rectangles.{intersects, reaches}
+use Rattle.geometry.specs.Laws.Geometry.{unreached}
 use Rattle.model.specs.declared.Dot.{Dot}
 use Rattle.model.specs.Lists.{All}
 use Rattle.model.specs.Dots.{isHit}
@@ -21,20 +23,27 @@ use Rattle.model.specs.Layout.{none}
 use Rattle.model.specs.Memory.{read, nextAt, dotAt, Chained}
 use Rattle.memory.specs.Rows.{HasPlace, HasRect}
 use Rattle.tree.specs.Standing.{InRows}
-use Rattle.tree_query.specs.declared.walk.Found.{Found}
+use Rattle.model.specs.declared.answers.Found.{Found}
 use Rattle.tree_query.specs.Rows.{kept, keptAll, kept-length}
-use Rattle.tree_query.specs.Walks.{chainHits, hitsAfter, rowWith, after, rowAfter, Left, ChainWalked}
+use Rattle.tree_query.specs.Walks.{chainHits, hitsAfter, rowWith, after, rowAfter, Left, ChainWalk, ChainWalked}
 
 -- ---- one dot
 
 module _ (q : AABB) (d : Dot) (room : ℕ) (row : List ℕ) (at : ℕ) where
-  pub dot-missed : intersects q (d .rect) ≡ false → (at ≡ hitsAfter q d at) × (row ≡ rowWith q d room row at)
+  missed : intersects q (d .rect) ≡ false → (at ≡ hitsAfter q d at) × (row ≡ rowWith q d room row at)
   unfolding hitsAfter rowWith isHit
-  dot-missed e = (rw e refl, rw e refl)
+  missed e = (rw e refl, rw e refl)
 
-  pub dot-hit : intersects q (d .rect) ≡ true → (row′ : List ℕ) → row′ ≡ kept room row at (d .id) → (at + 1 ≡ hitsAfter q d at) × (row′ ≡ rowWith q d room row at)
+  pub dot-unreached : {b : Bool} → b ≡ reaches q (d .rect) → not b ≡ true → (at ≡ hitsAfter q d at) × (row ≡ rowWith q d room row at)
+  dot-unreached {b} test n = missed (unreached q (d .rect) (sym test ∙ not-true b n))
+
+  pub dot-missed : {b : Bool} → b ≡ intersects q (d .rect) → not b ≡ true → (at ≡ hitsAfter q d at) × (row ≡ rowWith q d room row at)
+  dot-missed {b} test n = missed (sym test ∙ not-true b n)
+
+  pub dot-hit : {b : Bool} → b ≡ intersects q (d .rect) → not b ≡ false → (row′ : List ℕ) → row′ ≡ kept room row at (d .id)
+      → (at + 1 ≡ hitsAfter q d at) × (row′ ≡ rowWith q d room row at)
   unfolding hitsAfter rowWith isHit
-  dot-hit e row′ k = (rw e refl, rw e k)
+  dot-hit {b} test n row′ k = let e = sym test ∙ not-false b n in (rw e refl, rw e k)
 
 -- ---- the loop
 
@@ -59,15 +68,15 @@ module _ (q : AABB) (dots : List ℕ) (rects : List ℤ) (room : ℕ) where
     pub bound : at + left ≤ 65536
     pub rest : (whole : List Placed) → Chain head whole → length whole ≡ count → RestOf row₀ at₀ whole row at place left
 
-  pub rest-start : (row : List ℕ) (at head count : ℕ) → at + count ≤ 65536 → Rest row at head count row at head count
-  rest-start row at head count h =
+  pub rest-start : {row : List ℕ} {at head count : ℕ} → at + count ≤ 65536 → Rest row at head count row at head count
+  rest-start h =
       record {
         same = refl;
         bound = h;
         rest = λ whole s l. record { chain = whole; stands = s; long = l; inRows = λ a. a; listed = refl; written = refl };
       }
 
-  module _ (row₀ : List ℕ) (at₀ head count : ℕ) (row : List ℕ) (at place left : ℕ) (inv : Rest row₀ at₀ head count row at place left) where
+  module _ {row₀ : List ℕ} {at₀ head count : ℕ} {row : List ℕ} {at place left : ℕ} (inv : Rest row₀ at₀ head count row at place left) where
     turn-of : (whole : List Placed) → RestOf row₀ at₀ whole row at place left → 0 < left
         → RestOf row₀ at₀ whole (rowWith q (dotAt dots rects place) room row at) (hitsAfter q (dotAt dots rects place) at) (nextAt dots place) (left - 1)
     unfolding hitsAfter rowWith
@@ -117,36 +126,39 @@ module _ (q : AABB) (dots : List ℕ) (rects : List ℤ) (room : ℕ) where
         }
 
     -- a turn, by what its calls ensure
-    pub rest-turn : 0 < left → (row′ : List ℕ) (at′ place′ : ℕ)
-        → at′ ≡ hitsAfter q (dotAt dots rects place) at → row′ ≡ rowWith q (dotAt dots rects place) room row at → place′ ≡ nextAt dots place
+    pub rest-turn : 0 < left → {d : Dot} {row′ : List ℕ} {at′ place′ : ℕ}
+        → d ≡ dotAt dots rects place → at′ ≡ hitsAfter q d at → row′ ≡ rowWith q d room row at → place′ ≡ nextAt dots place
         → Rest row₀ at₀ head count row′ at′ place′ (left - 1)
-    rest-turn h row′ at′ place′ k r n =
-        rw (r, k, n) (turned h)
+    rest-turn h e k r n = rw (r, k, n, e) (turned h)
 
     -- the place that a turn reads
-    pub rest-place : (whole : List Placed) → Chain head whole → length whole ≡ count → All (InRows dots rects) whole → 0 < left → HasPlace dots place × HasRect rects place
-    rest-place whole s l a h =
-        let r = inv .rest whole s l in
-        go (r .chain) (r .stands) (r .long) (r .inRows a)
+    pub rest-place : {found : Found} → ChainWalk dots rects room row₀ found head count → 0 < left → HasPlace dots place × HasRect rects place
+    rest-place w h =
+        let r = inv .rest (w .chain) (w .stands) (w .long) in
+        go (r .chain) (r .stands) (r .long) (r .inRows (w .dotsIn))
       where
         go : (chain : List Placed) → Chain place chain → length chain ≡ left → All (InRows dots rects) chain → HasPlace dots place × HasRect rects place
         go [] s l a = absurd (omega (arith, l))
         go (d ∷ ds) s l a = subst (λ (p : ℕ). HasPlace dots p × HasRect rects p) (sym (s .0)) (a .0)
 
+    -- what a turn asks of the row and of the hits
+    pub rest-room : {found : Found} → ChainWalk dots rects room row₀ found head count → 0 < left → (room ≤ length row) × (at < 65536)
+    rest-room w h = (omega (arith, inv .same, w .fits), omega (arith, inv .bound))
+
 -- nothing is left: the whole chain is listed
-pub rest-end : (q : AABB) (dots : List ℕ) (rects : List ℤ) (room : ℕ) (row₀ : List ℕ) (found : Found) (head count : ℕ) (row : List ℕ) (at place left : ℕ)
-    → Rest q dots rects room row₀ (found .hits) head count row at place left → left ≡ 0
-    → ChainWalked q dots rects room row₀ found head count row (record { hits = at; opened = found .opened })
-unfolding ChainWalked after rowAfter
-rest-end q dots rects room row₀ found head count row at place left inv z = λ whole s l.
-    let r = inv .rest whole s l in
-    go whole (r .chain) (r .long) (r .listed) (r .written)
-  where
-    go : (whole chain : List Placed) → length chain ≡ left → at + length (chainHits q chain) ≡ found .hits + length (chainHits q whole)
-        → keptAll room row at (ids (chainHits q chain)) ≡ keptAll room row₀ (found .hits) (ids (chainHits q whole))
-        → Left room row₀ found (chainHits q whole) 0 row (record { hits = at; opened = found .opened })
-    go whole [] l c w =
-        let hits : at ≡ found .hits + length (chainHits q whole) = omega (arith, c) in
-        let opened : found .opened ≡ found .opened + 0 = omega arith in
-        record { answer = λ i. record { hits = hits i; opened = opened i }; written = w }
-    go whole (d ∷ ds) l c w = absurd (omega (arith, l))
+module _ (q : AABB) (dots : List ℕ) (rects : List ℤ) (room : ℕ) {row₀ : List ℕ} (found : Found) {head count : ℕ} {row : List ℕ} {at place left : ℕ} where
+  pub rest-end : Rest q dots rects room row₀ (found .hits) head count row at place left → left ≤ 0
+      → ChainWalked q dots rects room row₀ found head count row (record { hits = at; opened = found .opened })
+  unfolding ChainWalked after rowAfter
+  rest-end inv z = λ whole s l.
+      let r = inv .rest whole s l in
+      go whole (r .chain) (r .long) (r .listed) (r .written)
+    where
+      go : (whole chain : List Placed) → length chain ≡ left → at + length (chainHits q chain) ≡ found .hits + length (chainHits q whole)
+          → keptAll room row at (ids (chainHits q chain)) ≡ keptAll room row₀ (found .hits) (ids (chainHits q whole))
+          → Left room row₀ found (chainHits q whole) 0 row (record { hits = at; opened = found .opened })
+      go whole [] l c w =
+          let hits : at ≡ found .hits + length (chainHits q whole) = omega (arith, c) in
+          let opened : found .opened ≡ found .opened + 0 = omega arith in
+          record { answer = λ i. record { hits = hits i; opened = opened i }; written = w }
+      go whole (d ∷ ds) l c w = absurd (omega (arith, l))

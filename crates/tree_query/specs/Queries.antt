@@ -2,8 +2,8 @@
 --     tree-settings        the settings of a tree are in range
 --     root-walk, root-met  the walk from the root
 --     met-counted          a walk with no room counts
---     listed-few, counted-hits, counts-fit, met-fit        how many there are, at most
---     queried-many, queried-listed         refusal 8, and the ids listed
+--     listed-few, counted-hits     how many there are, at most
+--     queried-many, queried-listed         refusal 8, and the ids listed; room-live, room-counted: there is room for them
 use mathlib.Core.Path.{_≡_, ap, sym, _∙_}
 use mathlib.Core.List.{List, map}
 use mathlib.Core.Bool.{true}
@@ -28,7 +28,7 @@ use Rattle.model.specs.Laws.Memory.{holds-represented}
 use Rattle.model.specs.Laws.Listing.{listed-le}
 use Rattle.tree.specs.Operations.{IsTree}
 use Rattle.tree.specs.Standing.{root-stands, root-total}
-use Rattle.tree_query.specs.declared.walk.Found.{Found}
+use Rattle.model.specs.declared.answers.Found.{Found}
 use Rattle.tree_query.specs.Rows.{kept-whole}
 use Rattle.tree_query.specs.Walks.{after, rowAfter, NodeWalk, NodeWalked}
 use Rattle.tree_query.specs.Groups.{length-map}
@@ -84,17 +84,6 @@ module _ (s : State) (nodes dots : List ℕ) (rects : List ℤ) where
   unfolding Counted
   counted-hits q r c marks x h = ap (λ (f : Found). f .hits) (c marks x h)
 
-  pub counts-fit : (q : AABB) (r : Found) → IsTree s nodes dots rects → Counted s q nodes dots rects r → r .hits ≤ 65536
-  counts-fit q r t c =
-      let f = listed-few q (t .marks) (t .shape) (t .holds) in
-      omega (arith, f .0, f .1, counted-hits q r c (t .marks) (t .shape) (t .holds))
-
-  pub met-fit : (q : AABB) (room : ℕ) (row row′ : List ℕ) (r : Found) → IsTree s nodes dots rects → Met s q nodes dots rects room row row′ r → r .hits ≤ 65536
-  unfolding Met
-  met-fit q room row row′ r t m =
-      let f = listed-few q (t .marks) (t .shape) (t .holds) in
-      omega (arith, f .0, f .1, ap (λ (x : Found). x .hits) (m (t .marks) (t .shape) (t .holds) .0))
-
   -- ---- the answer
 
   -- 8: the ids outnumber the row, and nothing is changed
@@ -108,13 +97,19 @@ module _ (s : State) (nodes dots : List ℕ) (rects : List ℤ) where
   -- the row begins with the ids and keeps its tail
   pub queried-listed : (q : AABB) (row row′ : List ℕ) (r : Found) → Met s q nodes dots rects (length row) row row′ r
       → ((marks : List ℕ) (x : Shape) → Holds (world s nodes dots rects marks) x → length (listed q x) ≤ length row)
-      → Queried s q nodes dots rects row row′ (answered (record { hits = r .hits; opened = r .opened }))
+      → Queried s q nodes dots rects row row′ (answered r)
   unfolding Met Queried queryRule cleared
   queried-listed q row row′ r m fits = λ marks x h.
       let found = m marks x h in
-      let many = ap (λ (f : Found). f .hits) (found .0) in
-      let nodes-opened = ap (λ (f : Found). f .opened) (found .0) in
       let written = found .1 ∙ kept-whole (length row) row (listed q x) (fits marks x h) (fits marks x h) in
       let words = h .words in
-      rw (le-ltb (length row) (length (listed q x)) (fits marks x h))
-      (λ i. exit (words i) (written i) (answered (record { hits = many i; opened = nodes-opened i })))
+      rw (le-ltb (length row) (length (listed q x)) (fits marks x h)) (λ i. exit (words i) (written i) (answered (found .0 i)))
+
+  -- there is room: for every live dot, or for those that were counted
+  pub room-live : (q : AABB) (room : ℕ) → s .live ≤ room → (marks : List ℕ) (x : Shape) → Holds (world s nodes dots rects marks) x
+      → length (listed q x) ≤ room
+  room-live q room l marks x h = omega (arith, listed-few q marks x h .0)
+
+  pub room-counted : (q : AABB) (room : ℕ) (r : Found) → Counted s q nodes dots rects r → r .hits ≤ room
+      → (marks : List ℕ) (x : Shape) → Holds (world s nodes dots rects marks) x → length (listed q x) ≤ room
+  room-counted q room r c l marks x h = omega (arith, counted-hits q r c marks x h)

@@ -19,7 +19,7 @@ use Rattle.model.specs.Query.{hits, opened}
 use Rattle.model.specs.Layout.{none}
 use Rattle.model.specs.Memory.{read, Chained}
 use Rattle.tree.specs.Standing.{InRows, nodeTotal, Stands}
-use Rattle.tree_query.specs.declared.walk.Found.{Found}
+use Rattle.model.specs.declared.answers.Found.{Found}
 use Rattle.tree_query.specs.Rows.{kept, keptAll}
 
 -- the children from 5 - left on, in order

@@ -2,19 +2,15 @@
 ghost use mathlib.Core.Path.{_≡_};
 ghost use Prim.Native.Nat.{_+_, _≤_};
 ghost use lib.ListN.{length};
+ghost use Rattle.tree.specs.Operations.{HasTree};
+ghost use Rattle.model.specs.Answers.{leavesReply};
 ghost use Rattle.tree_query.specs.Rows.{kept, keptAll};
-ghost use Rattle.tree_query.specs.Answers.{LeavesMet, LeavesListed, leafReply};
+ghost use Rattle.tree_query.specs.Answers.{LeavesMet, LeavesListed};
 ghost use Rattle.tree_query.specs.Leaves.{wordsOf, LeafWalk, LeafGroup, LeafWalked, LeafGroupWalked};
 use geometry::node_data::NodeData;
 use memory::node::node_at;
 use model::State;
-ghost use Rattle.tree.specs.Operations.{HasTree};
-
-// Refused 8, with how many leaves there are; or how many the row now begins with.
-pub enum LeafListing {
-    TooMany(u32),
-    Listed(u32),
-}
+use model::answers::LeavesAnswer;
 
 // Writes a number at a position of the row, where there is room.
 fn keep_number(row: &mut [i32], room: usize, at: usize, number: i32)
@@ -98,17 +94,17 @@ fn list_leaves(state: State, nodes: &[u32], row: &mut [i32], room: usize) -> usi
 }
 
 // Lists the leaves, where they fit the row: they are counted first.
-pub fn leaves_row(state: State, nodes: &[u32], row: &mut [i32]) -> LeafListing
+pub fn leaves_row(state: State, nodes: &[u32], row: &mut [i32]) -> LeavesAnswer
     requires { ⌜ HasTree state (now nodes) ⌝ }
-    ensures { λ r. ⌜ LeavesListed state (now (nodes .entry)) (now (row .entry)) (now (row .exit)) (leafReply r) ⌝ }
+    ensures { λ r. ⌜ LeavesListed state (now (nodes .entry)) (now (row .entry)) (now (row .exit)) (leavesReply r) ⌝ }
 {
     let mut none = [0i32; 1];
     let words = list_leaves(state, nodes, &mut none, 0);
     let number = (words / 6) as u32;
     let room = row.len();
     if room < words {
-        return LeafListing::TooMany(number);
+        return LeavesAnswer::TooMany(number);
     }
     list_leaves(state, nodes, row, room);
-    LeafListing::Listed(number)
+    LeavesAnswer::Listed(number)
 }

@@ -1,27 +1,23 @@
 // Query: the ids of the dots that a rectangle meets, and the nodes opened.
 ghost use Prim.Native.Nat.{_≤_};
 ghost use lib.ListN.{length};
+ghost use Rattle.model.specs.Answers.{queryReply};
 ghost use Rattle.tree.specs.Operations.{IsTree};
-ghost use Rattle.tree_query.specs.Answers.{Met, Counted, Queried, listingReply};
-use crate::walk::Found;
+ghost use Rattle.tree_query.specs.Answers.{Met, Counted, Queried};
 use crate::walk::walk_node;
 use geometry::aabb::AABB;
 use geometry::centered_aabb::CenteredAABB;
 use model::State;
-
-// Refused 8, with how many there are; or how many ids the row now begins with, and the nodes opened.
-pub enum Listing {
-    TooMany(u32),
-    Listed(u32, u32),
-}
+use model::answers::Found;
+use model::answers::QueryAnswer;
 
 // Walks the whole tree; ids are written to the first `room` words of the row.
 fn list_hits(
     state: State,
-    query: AABB,
     nodes: &[u32],
     dots: &[u32],
     rects: &[i32],
+    query: AABB,
     row: &mut [u32],
     room: usize,
 ) -> Found
@@ -36,33 +32,32 @@ fn list_hits(
 }
 
 // How many dots the query meets, and the nodes opened.
-pub fn count_hits(state: State, query: AABB, nodes: &[u32], dots: &[u32], rects: &[i32]) -> Found
+pub fn count_hits(state: State, nodes: &[u32], dots: &[u32], rects: &[i32], query: AABB) -> Found
     requires { ⌜ IsTree state (now nodes) (now dots) (now rects) ⌝ }
     ensures { λ r. ⌜ Counted state query (now (nodes .entry)) (now (dots .entry)) (now (rects .entry)) r ⌝ }
 {
     let mut none = [0u32; 1];
-    list_hits(state, query, nodes, dots, rects, &mut none, 0)
+    list_hits(state, nodes, dots, rects, query, &mut none, 0)
 }
 
 // Lists the ids, where they fit the row. Where it has a word for each live dot, one walk serves.
 pub fn query_row(
     state: State,
-    query: AABB,
     nodes: &[u32],
     dots: &[u32],
     rects: &[i32],
+    query: AABB,
     row: &mut [u32],
-) -> Listing
+) -> QueryAnswer
     requires { ⌜ IsTree state (now nodes) (now dots) (now rects) ⌝ }
-    ensures { λ r. ⌜ Queried state query (now (nodes .entry)) (now (dots .entry)) (now (rects .entry)) (now (row .entry)) (now (row .exit)) (listingReply r) ⌝ }
+    ensures { λ r. ⌜ Queried state query (now (nodes .entry)) (now (dots .entry)) (now (rects .entry)) (now (row .entry)) (now (row .exit)) (queryReply r) ⌝ }
 {
     let room = row.len();
     if room < state.live as usize {
-        let hits = count_hits(state, query, nodes, dots, rects).hits;
-        if room < hits {
-            return Listing::TooMany(hits as u32);
+        let hits = count_hits(state, nodes, dots, rects, query).hits;
+        if room < hits as usize {
+            return QueryAnswer::TooMany(hits);
         }
     }
-    let found = list_hits(state, query, nodes, dots, rects, row, room);
-    Listing::Listed(found.hits as u32, found.opened)
+    QueryAnswer::Listed(list_hits(state, nodes, dots, rects, query, row, room))
 }

@@ -3,8 +3,6 @@ ghost use mathlib.Core.Path.{_≡_};
 ghost use Prim.Native.Nat.{_≤_, _<_};
 ghost use lib.ListN.{length};
 ghost use Rattle.tree_query.specs.Rows.{kept};
-ghost use Rattle.model.specs.Memory.{dotAt};
-ghost use Rattle.memory.specs.Rows.{HasPlace, HasRect};
 ghost use Rattle.tree_query.specs.Walks.{hitsAfter, rowWith, ChainWalk, NodeWalk, GroupWalk, ChainWalked, NodeWalked, GroupWalked};
 use geometry::aabb::AABB;
 use geometry::centered_aabb::CenteredAABB;
@@ -13,14 +11,8 @@ use memory::node::Node;
 use memory::node::node_at;
 use memory::places::dot_at;
 use memory::places::next_at;
-use memory::places::reaches;
 use model::Dot;
-
-// What a walk has met: the dots that intersect, and the nodes opened.
-pub struct Found {
-    pub hits: usize,
-    pub opened: u32,
-}
+use model::answers::Found;
 
 // Writes an id at a position of the row, where there is room.
 fn keep(row: &mut [u32], room: usize, at: usize, id: u32)
@@ -32,36 +24,20 @@ fn keep(row: &mut [u32], room: usize, at: usize, id: u32)
     }
 }
 
-// Lists a dot where the query meets it; how many are then listed.
-fn list_dot(query: AABB, dot: Dot, row: &mut [u32], room: usize, hits: usize) -> usize
+// Lists a dot where the query meets it; how many are then listed. A rectangle out of reach needs no closer test.
+fn list_dot(query: AABB, dot: Dot, row: &mut [u32], room: usize, hits: u32) -> u32
     requires { ⌜ (room ≤ length (now row)) × (hits < 65536) ⌝ }
     ensures { λ r. ⌜ (r ≡ hitsAfter query dot hits) × (now (row .exit) ≡ rowWith query dot room (now (row .entry)) hits) ⌝ }
 {
     let rect = dot.rect;
+    if !query.reaches(rect) {
+        return hits;
+    }
     if !query.intersects_with(rect) {
         return hits;
     }
-    keep(row, room, hits, dot.id);
+    keep(row, room, hits as usize, dot.id);
     hits + 1
-}
-
-// Lists the dot of a place where the query meets it; how many are then listed.
-fn list_place(
-    query: AABB,
-    dots: &[u32],
-    rects: &[i32],
-    row: &mut [u32],
-    room: usize,
-    hits: usize,
-    place: usize,
-) -> usize
-    requires { ⌜ HasPlace (now dots) place × HasRect (now rects) place × (room ≤ length (now row)) × (hits < 65536) ⌝ }
-    ensures { λ r. ⌜ (r ≡ hitsAfter query (dotAt (now (dots .entry)) (now (rects .entry)) place) hits) × (now (row .exit) ≡ rowWith query (dotAt (now (dots .entry)) (now (rects .entry)) place) room (now (row .entry)) hits) ⌝ }
-{
-    if !reaches(query, rects, place) {
-        return hits;
-    }
-    list_dot(query, dot_at(dots, rects, place), row, room, hits)
 }
 
 // Lists the dots of a leaf's chain that the query meets.
@@ -84,7 +60,7 @@ fn walk_chain(
     while left > 0 {
         let p = place as usize;
         place = next_at(dots, p);
-        hits = list_place(query, dots, rects, row, room, hits, p);
+        hits = list_dot(query, dot_at(dots, rects, p), row, room, hits);
         left -= 1;
     }
     Found { hits, opened }

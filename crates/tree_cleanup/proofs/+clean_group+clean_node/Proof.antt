@@ -19,7 +19,7 @@ use Rattle.tree_cleanup.proofs.+clean_group+clean_node.Lts-clean_node a
 use Rattle.tree_cleanup.proofs.is_empty_group.Reads as is-empty-group-reads
 use Rattle.tree_cleanup.proofs.turn.Reads as turn-reads
 use Rattle.memory.proofs.node.Node.is_branch.Reads as is-branch-reads
-use Rattle.memory.proofs.words.node_at.Reads as node-at-reads
+use Rattle.memory.proofs.node.node_at.Reads as node-at-reads
 use Rattle.tree.specs.Standing.{not-branch, is-branch}
 use Rattle.tree_cleanup.proofs.+clean_group+clean_node.{statement}
 use Rattle.tree_cleanup.proofs.+clean_group+clean_node.Tie.{close}

@@ -27,7 +27,7 @@ use Rattle.tree_check.proofs.tree.check_node.Reads as check-node
 use Rattle.tree_check.proofs.tree.check_node.Kinds as check-node-kinds
 use Rattle.tree_check.proofs.tree.+check_group+check_node.Lts-check_node as check-node-lts
 use Rattle.memory.proofs.node.Node.is_branch.Reads as is-branch-reads
-use Rattle.memory.proofs.words.node_at.Reads as node-at-reads
+use Rattle.memory.proofs.node.node_at.Reads as node-at-reads
 use Rattle.tree_check.proofs.chain.check_chain.Reads as check-chain-reads
 use Rattle.tree_check.proofs.free.group_at.Reads as group-at-reads
 use Rattle.tree_check.proofs.free.is_empty.Reads as is-empty-reads

@@ -6,15 +6,6 @@ use borrow.Author.Needs.{needs}
 use Rattle.tree_query.proofs.leaves.keep_number.Statement.{statement}
 use Rattle.tree_query.proofs.leaves.keep_number.Tie as tie
 
-mul-number : tie.Need-mul-number
-mul-number c = search needs
-
-slice-set-from-number : tie.Need-slice-set-from-number
-slice-set-from-number c = search needs
-
-same-length : tie.Need-same-length
-same-length c = search needs
-
 returns : tie.Need-returns
 returns c =
     let a = c .before .args in
@@ -25,4 +16,5 @@ returns-2 c = kept-out _ _ _ _ (c .if1 .left)
 
 pub keep-number-spec : {M : Type 1} → statement M
 keep-number-spec =
-    tie.close (tie.spec mul-number slice-set-from-number same-length returns returns-2)
+    tie.close (tie.spec
+    (λ c. search needs) (λ c. search needs) (λ c. search needs) returns returns-2)

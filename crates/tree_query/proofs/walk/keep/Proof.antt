@@ -4,15 +4,6 @@ use borrow.Author.Needs.{needs}
 use Rattle.tree_query.proofs.walk.keep.Statement.{statement}
 use Rattle.tree_query.proofs.walk.keep.Tie as tie
 
-mul-row : tie.Need-mul-row
-mul-row c = search needs
-
-slice-write-row : tie.Need-slice-write-row
-slice-write-row c = search needs
-
-same-length : tie.Need-same-length
-same-length c = search needs
-
 returns : tie.Need-returns
 returns c = kept-in _ _ _ _ (c .if1 .taken)
 
@@ -20,4 +11,5 @@ returns-2 : tie.Need-returns-2
 returns-2 c = kept-out _ _ _ _ (c .if1 .left)
 
 pub keep-spec : {M : Type 1} → statement M
-keep-spec = tie.close (tie.spec mul-row slice-write-row same-length returns returns-2)
+keep-spec = tie.close (tie.spec
+    (λ c. search needs) (λ c. search needs) (λ c. search needs) returns returns-2)

@@ -2,8 +2,7 @@
 use Prim.Native.Nat.{_<_, _^_}
 use native.Mathlib.Omega.{arith}
 use borrow.Author.Needs.{needs}
-use Rattle.memory.specs.Rows.{HasPlace, HasRect}
-use Rattle.tree_query.specs.Chains.{Rest, rest-start, rest-turn, rest-place, rest-end}
+use Rattle.tree_query.specs.Chains.{Rest, rest-start, rest-turn, rest-place, rest-room, rest-end}
 use Rattle.tree_query.proofs.walk.walk_chain.Statement.{statement}
 use Rattle.tree_query.proofs.walk.walk_chain.Tie as tie
 
@@ -14,71 +13,50 @@ Inv-loop query dots rects row₀ room opened hits₀ place₀ left₀ row hits p
 abbrev μ-loop : tie.MeasureT-loop
 μ-loop query dots rects row₀ room opened hits₀ place₀ left₀ row hits place left = left
 
--- the place that a turn reads is one of the chain's
-place-in : (c : tie.In-loop Inv-loop μ-loop) → HasPlace (c .before .before .before .before .args .dots .now) (c .before .loop .place) × HasRect (c .before .before .before .before .args .rects .now) (c .before .loop .place)
-place-in c =
-    let s = c .before .before .before .before in
-    let a = s .args in
-    let p = s .pre in
-    rest-place (a .query) (a .dots .now) (a .rects .now) (a .room) (a .row .now) (a .found .hits) (a .leaf .first) (a .leaf .count) (c .before .loop .row) (c .before .loop .hits) (c .before .loop .place) (c .before .loop .left) (c .before .loop .inv .0)
-    (p .chain) (p .stands) (p .long) (p .dotsIn) (c .loop-test .taken)
-
 loop-holds : tie.Need-loop-holds Inv-loop μ-loop
 loop-holds c =
-    let s = c .before .before in
-    let a = s .args in
-    (rest-start (a .query) (a .dots .now) (a .rects .now) (a .room) (a .row .now) (a .found .hits) (a .leaf .first) (a .leaf .count) (s .pre .counts .hits), search needs)
-
-cast-p : tie.Need-cast-p Inv-loop μ-loop
-cast-p c = omega arith
+    let s : tie.Start Inv-loop μ-loop = search in
+    (rest-start _ _ _ _ (s .pre .counts .hits), search needs)
 
 next-at-requires : tie.Need-next-at-requires Inv-loop μ-loop
-next-at-requires c κs = place-in c .0
+next-at-requires c κs =
+    let s : tie.Start Inv-loop μ-loop = search in
+    rest-place _ _ _ _ (c .before .loop .inv .0) (s .pre) (c .loop-test .taken) .0
 
-list-place-requires : tie.Need-list-place-requires Inv-loop μ-loop
-list-place-requires c κs =
-    let i = c .before .before .before .loop .inv .0 in
-    let p = place-in (c .before .before) in
-    (p .0, p .1, omega (arith, i .same, c .before .before .before .before .before .before .pre .fits), omega (arith, i .bound, c .before .before .loop-test .taken))
+dot-at-requires : tie.Need-dot-at-requires Inv-loop μ-loop
+dot-at-requires c κs =
+    let turn : tie.In-loop Inv-loop μ-loop = search in
+    let head : tie.At-loop Inv-loop μ-loop = search in
+    let s : tie.Start Inv-loop μ-loop = search in
+    rest-place _ _ _ _ (head .loop .inv .0) (s .pre) (turn .loop-test .taken)
 
-sub-left : tie.Need-sub-left Inv-loop μ-loop
-sub-left c = omega arith
-
-loop-less : tie.Need-loop-less Inv-loop μ-loop
-loop-less c = omega arith
+list-dot-requires : tie.Need-list-dot-requires Inv-loop μ-loop
+list-dot-requires c κs =
+    let turn : tie.In-loop Inv-loop μ-loop = search in
+    let head : tie.At-loop Inv-loop μ-loop = search in
+    let s : tie.Start Inv-loop μ-loop = search in
+    rest-room _ _ _ _ (head .loop .inv .0) (s .pre) (turn .loop-test .taken)
 
 loop-again : tie.Need-loop-again Inv-loop μ-loop
 loop-again c =
-    let l = c .before .before .before .before .before .before in
-    let a = l .before .before .before .args in
-    let next = c .before .before .before .before .next-at in
-    let listed = c .before .before .list-place in (
-      rest-turn (a .query) (a .dots .now) (a .rects .now) (a .room) (a .row .now) (a .found .hits) (a .leaf .first) (a .leaf .count) (l .loop .row) (l .loop .hits) (l .loop .place) (l .loop .left) (l .loop .inv .0)
-          (c .before .before .before .before .before .loop-test .taken) _ (listed .result) (next .result) (listed .ensures .0) (listed .ensures .1) (next .ensures),
+    let listed : tie.After-list-dot Inv-loop μ-loop = search in
+    let read : tie.After-dot-at Inv-loop μ-loop = search in
+    let next : tie.After-next-at Inv-loop μ-loop = search in
+    let turn : tie.In-loop Inv-loop μ-loop = search in
+    let head : tie.At-loop Inv-loop μ-loop = search in (
+      rest-turn _ _ _ _ (head .loop .inv .0) (turn .loop-test .taken)
+          (read .dot-at .ensures) (listed .list-dot .ensures .0) (listed .list-dot .ensures .1) (next .next-at .ensures),
       search needs,
     )
 
-same-length : tie.Need-same-length Inv-loop μ-loop
-same-length c = c .before .loop .inv .0 .same
-
 returns : tie.Need-returns Inv-loop μ-loop
-returns c =
-    let s = c .before .before .before .before in
-    let a = s .args in
-    rest-end (a .query) (a .dots .now) (a .rects .now) (a .room) (a .row .now) (a .found) (a .leaf .first) (a .leaf .count) (c .before .loop .row) (c .before .loop .hits) (c .before .loop .place) (c .before .loop .left) (c .before .loop .inv .0) (omega arith)
+returns c = let s : tie.Start Inv-loop μ-loop = search in rest-end _ _ _ _ (s .args .found) (c .before .loop .inv .0) (omega arith)
 
 pub walk-chain-spec : {M : Type 1} → statement M
 walk-chain-spec =
     tie.close
     (tie.spec
-    Inv-loop
-    μ-loop
-    loop-holds
-    cast-p
-    next-at-requires
-    list-place-requires
-    sub-left
-    loop-less
-    loop-again
-    same-length
-    returns)
+    Inv-loop μ-loop loop-holds
+    (λ c. search needs) next-at-requires dot-at-requires list-dot-requires
+    (λ c. search needs) (λ c. search needs) loop-again
+    (λ c. search) returns)
