@@ -12,6 +12,7 @@ use lib.ListN.{length, replicate, length-replicate}
 use borrow.Author.Tests.{lt-ltb, le-ltb}
 use Rattle.geometry.specs.Settings.{D}
 use Rattle.model.specs.declared.State.{State}
+use Rattle.model.specs.declared.answers.CleanupAnswer.the-variants.{Done}
 use Rattle.model.specs.Cleanup.{isZero, cleanTree, freedBy, turned}
 use Rattle.model.specs.Shapes.{Shape, cleaned, cleans}
 use Rattle.model.specs.Layout.{world, changedState, Holds}
@@ -60,7 +61,7 @@ module _ (s : State) (nodes : List ℕ) where
   some-turned (suc n) = lt-ltb 0 (suc n) (omega arith)
 
   pub cleaned-up : (nodes′ : List ℕ) (r : Swept) (next : State) → length nodes′ ≡ length nodes → next ≡ changedState s (r .head) (s .«free_place») (s .live)
-      → NodeCleaned nodes start 0 (D (s .settings)) nodes′ r → CleanedUp s nodes nodes′ (record { yes = ltb 0 (r .turned); state = next })
+      → NodeCleaned nodes start 0 (D (s .settings)) nodes′ r → CleanedUp s nodes nodes′ (Done (ltb 0 (r .turned)) next)
   unfolding NodeCleaned CleanedUp cleanupRule cleans cleaned
   cleaned-up nodes′ r next same e done = λ dots rects marks x h.
       let c = done dots rects (x .tree) (x .freeGroups) (root-was dots rects marks x h) (root-fits dots rects marks x h) in

@@ -9,6 +9,7 @@ use memory::node::Node;
 use memory::node::node_at;
 use memory::node::set_node;
 use model::State;
+use model::answers::CleanupAnswer;
 
 // The head of the free groups, and how many branches were turned.
 pub struct Swept {
@@ -78,13 +79,8 @@ fn clean_group(nodes: &mut [u32], swept: Swept, first: usize, levels: u32, left:
     clean_group(nodes, next, first, levels, left - 1)
 }
 
-// Whether a branch was turned, and the state after it.
-pub struct Cleaning {
-    pub yes: bool,
-    pub state: State,
-}
-
-pub fn cleanup_tree(state: State, nodes: &mut [u32]) -> Cleaning
+// Cleans up the tree: whether a branch was turned, and the state after it.
+pub fn cleanup_tree(state: State, nodes: &mut [u32]) -> CleanupAnswer
     requires { ⌜ HasTree state (now nodes) ⌝ }
     ensures { λ r. ⌜ CleanedUp state (now (nodes .entry)) (now (nodes .exit)) r ⌝ }
 {
@@ -95,8 +91,8 @@ pub fn cleanup_tree(state: State, nodes: &mut [u32]) -> Cleaning
         turned: 0,
     };
     let swept = clean_node(nodes, start, 0, levels);
-    Cleaning {
-        yes: 0 < swept.turned,
-        state: state.changed(swept.head, state.free_place, state.live),
-    }
+    CleanupAnswer::Done(
+        0 < swept.turned,
+        state.changed(swept.head, state.free_place, state.live),
+    )
 }
