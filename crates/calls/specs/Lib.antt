@@ -1,3 +1,2 @@
--- Document 01's number and values for each answer of a public call; Laws shows that the calls obey its statements.
-pub mod Answers
+-- The public calls have no definitions of their own: their contracts are the model's statements. Laws shows that the calls obey them.
 pub mod Laws

@@ -1,16 +1,11 @@
 // Cleanup: branches with five empty children become empty leaves, one level a call.
 ghost use Rattle.model.specs.Layout.{world};
 ghost use Rattle.model.specs.Calls.{Cleanup};
-ghost use Rattle.calls.specs.Answers.{cleanupReply, cleanupState};
+ghost use Rattle.model.specs.Answers.{cleanupReply, cleanupState};
 use model::State;
+use model::answers::CleanupAnswer;
 use tree_check::check::check;
 use tree_cleanup::cleanup_tree;
-
-// A refusal; or whether a branch was turned, and the state after it.
-pub enum CleanupAnswer {
-    Refused(u32),
-    Done(bool, State),
-}
 
 pub fn cleanup(
     state: State,
@@ -25,7 +20,5 @@ pub fn cleanup(
     if refusal != 0 {
         return CleanupAnswer::Refused(refusal);
     }
-    let done = cleanup_tree(state, nodes);
-    let next = done.state;
-    CleanupAnswer::Done(done.yes, next)
+    cleanup_tree(state, nodes)
 }

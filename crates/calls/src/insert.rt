@@ -1,18 +1,12 @@
 // Insert: a dot goes to the leaf that it routes to.
 ghost use Rattle.model.specs.Layout.{world};
 ghost use Rattle.model.specs.Calls.{Insert};
-ghost use Rattle.calls.specs.Answers.{insertReply, insertState};
+ghost use Rattle.model.specs.Answers.{insertReply, insertState};
 use model::Dot;
 use model::State;
+use model::answers::InsertAnswer;
 use tree_check::check::check;
-use tree_insert::Inserted;
 use tree_insert::insert_dot;
-
-// A refusal; or the number of splits, and the state after it.
-pub enum InsertAnswer {
-    Refused(u32),
-    Splits(u32, State),
-}
 
 pub fn insert(
     state: State,
@@ -28,8 +22,5 @@ pub fn insert(
     if refusal != 0 {
         return InsertAnswer::Refused(refusal);
     }
-    match insert_dot(state, dot, nodes, dots, rects) {
-        Inserted::Refused(number) => InsertAnswer::Refused(number),
-        Inserted::Done(splits, next) => InsertAnswer::Splits(splits, next),
-    }
+    insert_dot(state, nodes, dots, rects, dot)
 }

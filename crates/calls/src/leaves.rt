@@ -1,18 +1,11 @@
 // Leaves: six numbers a leaf, in the row that the caller lends.
 ghost use Rattle.model.specs.Layout.{world};
 ghost use Rattle.model.specs.Calls.{Leaves};
-ghost use Rattle.calls.specs.Answers.{leavesReply};
+ghost use Rattle.model.specs.Answers.{leavesReply};
 use model::State;
+use model::answers::LeavesAnswer;
 use tree_check::check::check;
-use tree_query::leaves::LeafListing;
 use tree_query::leaves::leaves_row;
-
-// A refusal; refusal 8, with how many leaves there are; or how many leaves the row now begins with.
-pub enum LeavesAnswer {
-    Refused(u32),
-    TooMany(u32),
-    Listed(u32),
-}
 
 pub fn leaves(
     state: State,
@@ -28,8 +21,5 @@ pub fn leaves(
     if refusal != 0 {
         return LeavesAnswer::Refused(refusal);
     }
-    match leaves_row(state, nodes, row) {
-        LeafListing::TooMany(many) => LeavesAnswer::TooMany(many),
-        LeafListing::Listed(many) => LeavesAnswer::Listed(many),
-    }
+    leaves_row(state, nodes, row)
 }

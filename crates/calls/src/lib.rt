@@ -1,7 +1,8 @@
-// The public calls. Each begins with the check of the memory that it is lent.
+// The public calls. Each but make begins with the check of the memory that it is lent.
 pub mod cleanup;
 pub mod insert;
 pub mod leaves;
+pub mod make;
 pub mod query;
 pub mod references;
 pub mod remove;

@@ -1,19 +1,12 @@
 // Query and all: the ids of the dots that a rectangle meets, in the row that the caller lends.
 ghost use Rattle.model.specs.Layout.{world};
 ghost use Rattle.model.specs.Calls.{Query, All};
-ghost use Rattle.calls.specs.Answers.{queryReply};
+ghost use Rattle.model.specs.Answers.{queryReply};
 use geometry::aabb::AABB;
 use model::State;
+use model::answers::QueryAnswer;
 use tree_check::check::check;
-use tree_query::query::Listing;
 use tree_query::query::query_row;
-
-// A refusal; refusal 8, with how many ids there are; or how many ids the row now begins with, and the nodes opened.
-pub enum QueryAnswer {
-    Refused(u32),
-    TooMany(u32),
-    Listed(u32, u32),
-}
 
 pub fn query(
     state: State,
@@ -30,10 +23,7 @@ pub fn query(
     if refusal != 0 {
         return QueryAnswer::Refused(refusal);
     }
-    match query_row(state, rect, nodes, dots, rects, row) {
-        Listing::TooMany(many) => QueryAnswer::TooMany(many),
-        Listing::Listed(hits, opened) => QueryAnswer::Listed(hits, opened),
-    }
+    query_row(state, nodes, dots, rects, rect, row)
 }
 
 // The dots that the root's rectangle meets.
@@ -52,8 +42,5 @@ pub fn all(
         return QueryAnswer::Refused(refusal);
     }
     let settings = state.settings;
-    match query_row(state, settings.root_rect(), nodes, dots, rects, row) {
-        Listing::TooMany(many) => QueryAnswer::TooMany(many),
-        Listing::Listed(hits, opened) => QueryAnswer::Listed(hits, opened),
-    }
+    query_row(state, nodes, dots, rects, settings.root_rect(), row)
 }

@@ -1,15 +1,10 @@
 // References: the dots in all leaves.
 ghost use Rattle.model.specs.Layout.{world};
 ghost use Rattle.model.specs.Calls.{References};
-ghost use Rattle.calls.specs.Answers.{referencesReply};
+ghost use Rattle.model.specs.Answers.{referencesReply};
 use model::State;
+use model::answers::ReferencesAnswer;
 use tree_check::check::check;
-
-// What references answers: its refusal, or the number of dots.
-pub enum Counted {
-    Refused(u32),
-    Count(u32),
-}
 
 // The number of dots in all leaves, which the check has found to be the live number.
 pub fn references(
@@ -18,12 +13,12 @@ pub fn references(
     dots: &[u32],
     rects: &[i32],
     marks: &mut [u8],
-) -> Counted
+) -> ReferencesAnswer
     ensures { λ r. ⌜ References (world state (now (nodes .entry)) (now (dots .entry)) (now (rects .entry)) (now (marks .entry))) (world state (now (nodes .exit)) (now (dots .exit)) (now (rects .exit)) (now (marks .exit))) (referencesReply r) ⌝ }
 {
     let refusal = check(state, nodes, dots, rects, marks);
     if refusal != 0 {
-        return Counted::Refused(refusal);
+        return ReferencesAnswer::Refused(refusal);
     }
-    Counted::Count(state.live)
+    ReferencesAnswer::Count(state.live)
 }

@@ -1,19 +1,12 @@
 // Remove: the first dot with an id in the leaf that a rectangle routes to.
 ghost use Rattle.model.specs.Layout.{world};
 ghost use Rattle.model.specs.Calls.{Remove};
-ghost use Rattle.calls.specs.Answers.{removeReply, removeState};
+ghost use Rattle.model.specs.Answers.{removeReply, removeState};
 use geometry::aabb::AABB;
 use model::State;
+use model::answers::RemoveAnswer;
 use tree_check::check::check;
-use tree_remove::Removed;
 use tree_remove::remove_dot;
-
-// A refusal; yes, with the state after it; or no, and nothing is changed.
-pub enum RemoveAnswer {
-    Refused(u32),
-    Yes(State),
-    No,
-}
 
 pub fn remove(
     state: State,
@@ -30,8 +23,5 @@ pub fn remove(
     if refusal != 0 {
         return RemoveAnswer::Refused(refusal);
     }
-    match remove_dot(state, id, rect, nodes, dots, rects) {
-        Removed::Yes(next) => RemoveAnswer::Yes(next),
-        Removed::No => RemoveAnswer::No,
-    }
+    remove_dot(state, nodes, dots, rects, id, rect)
 }

@@ -1,7 +1,8 @@
--- Each call obeys its statement: the check's refusal, and the operation without the check.
---     query-refused, query-answered; all-refused, all-answered; leaves-refused, leaves-answered
+-- Each call obeys its statement: a refusal of the check is handed back, else the operation without the check says what is left.
 --     insert-refused, insert-answered; remove-refused, remove-answered; cleanup-refused, cleanup-answered
-use mathlib.Core.Path.{_≡_}
+--     query-refused, query-answered; all-refused, all-answered; leaves-refused, leaves-answered
+--     references-refused, references-counted
+use mathlib.Core.Path.{_≡_, refl, _∙_, subst}
 use mathlib.Core.List.{List, []}
 use mathlib.Core.Bool.{Bool}
 use Prim.Native.Nat.{ℕ}
@@ -11,85 +12,96 @@ use Rattle.geometry.specs.declared.aabb.AABB.{AABB}
 use Rattle.geometry.specs.Settings.{rootRect}
 use Rattle.model.specs.declared.Dot.{Dot}
 use Rattle.model.specs.declared.State.{State}
-use Rattle.model.specs.Layout.{world}
 use Rattle.model.specs.declared.answers.Found.{Found}
-use Rattle.model.specs.Calls.{Reply, refused, answered, Query, All, Leaves, Insert, Remove, Cleanup, queryRule, leavesRule, insertRule, removeRule, cleanupRule}
+use Rattle.model.specs.declared.answers.CleanupAnswer.{CleanupAnswer}
+use Rattle.model.specs.Shapes.{references}
+use Rattle.model.specs.Layout.{world, cleared}
+use Rattle.model.specs.Answers.{cleanupReply, cleanupState}
+use Rattle.model.specs.Calls.{Reply, refused, answered, exit, Query, All, Leaves, References, Insert, Remove, Cleanup}
+use Rattle.model.specs.Calls.{queryRule, leavesRule, referencesRule, insertRule, removeRule, cleanupRule}
 use Rattle.model.specs.Laws.Listing.{all-query}
+use Rattle.model.specs.Laws.Memory.{holds-represented}
 use Rattle.tree_check.specs.Checks.{Checked}
-use Rattle.tree.specs.Operations.{CarriedOut, HasTree}
+use Rattle.tree.specs.Operations.{CarriedOut}
 use Rattle.tree_query.specs.Answers.{Queried, LeavesListed}
-use Rattle.tree_cleanup.specs.declared.Cleaning.{Cleaning}
 use Rattle.tree_cleanup.specs.Answers.{CleanedUp}
-use Rattle.calls.specs.Laws.Pattern.{checked-tree, call-refused, call-carried}
+use Rattle.calls.specs.Laws.Pattern.{call-refused, call-carried}
 
-module _ (s : State) (nodes dots : List ℕ) (rects : List ℤ) (marks marks′ : List ℕ) (answer : ℕ) (c : Checked s nodes dots rects marks marks′ answer) where
-  -- ---- query
-
-  module _ (q : AABB) (row : List ℕ) where
-    pub query-refused : (answer ≡ 0 → ⊥) → Query (world s nodes dots rects marks) q row (world s nodes dots rects marks′) row (refused answer)
-    unfolding Query
-    query-refused ne = call-refused s nodes dots rects marks marks′ answer c (queryRule q (length row)) row ne
-
-    pub query-answered : answer ≡ 0 → (row′ : List ℕ) (reply : Reply Found) → Queried s q nodes dots rects row row′ reply
-        → Query (world s nodes dots rects marks) q row (world s nodes dots rects marks′) row′ reply
-    unfolding Query Queried
-    query-answered z row′ reply done = call-carried s nodes dots rects marks marks′ answer c (queryRule q (length row)) row z s nodes dots rects row′ reply done
-
-  -- ---- all
-
-  module _ (row : List ℕ) where
-    pub all-refused : (answer ≡ 0 → ⊥) → All (world s nodes dots rects marks) row (world s nodes dots rects marks′) row (refused answer)
-    all-refused ne = all-query _ _ _ _ _ .1 (query-refused (rootRect (s .settings)) row ne)
-
-    pub all-answered : answer ≡ 0 → (row′ : List ℕ) (reply : Reply Found) → Queried s (rootRect (s .settings)) nodes dots rects row row′ reply
-        → All (world s nodes dots rects marks) row (world s nodes dots rects marks′) row′ reply
-    all-answered z row′ reply done = all-query _ _ _ _ _ .1 (query-answered (rootRect (s .settings)) row z row′ reply done)
-
-  -- ---- leaves, for which the nodes are enough
-
-  pub nodes-tree : answer ≡ 0 → HasTree s nodes
-  nodes-tree z = record { dots = dots; rects = rects; tree = checked-tree s nodes dots rects marks marks′ answer c z }
-
-  module _ (row : List ℤ) where
-    pub leaves-refused : (answer ≡ 0 → ⊥) → Leaves (world s nodes dots rects marks) row (world s nodes dots rects marks′) row (refused answer)
-    unfolding Leaves
-    leaves-refused ne = call-refused s nodes dots rects marks marks′ answer c (leavesRule (length row)) row ne
-
-    pub leaves-answered : answer ≡ 0 → (row′ : List ℤ) (reply : Reply ℕ) → LeavesListed s nodes row row′ reply
-        → Leaves (world s nodes dots rects marks) row (world s nodes dots rects marks′) row′ reply
-    unfolding Leaves LeavesListed
-    leaves-answered z row′ reply done = call-carried s nodes dots rects marks marks′ answer c (leavesRule (length row)) row z s nodes dots rects row′ reply (done dots rects)
-
-  -- ---- insert
+module _ {s : State} {nodes dots : List ℕ} {rects : List ℤ} {marks marks′ : List ℕ} {refusal : ℕ} (c : Checked s nodes dots rects marks marks′ refusal) where
+  -- ---- the calls that change the tree
 
   module _ (dot : Dot) where
-    pub insert-refused : (answer ≡ 0 → ⊥) → Insert (world s nodes dots rects marks) dot (world s nodes dots rects marks′) (refused answer)
+    pub insert-refused : (refusal ≡ 0 → ⊥) → Insert (world s nodes dots rects marks) dot (world s nodes dots rects marks′) (refused refusal)
     unfolding Insert
-    insert-refused ne = call-refused s nodes dots rects marks marks′ answer c (insertRule dot) [] ne
+    insert-refused ne = call-refused c (insertRule dot) [] ne
 
-    pub insert-answered : answer ≡ 0 → (s′ : State) (nodes′ dots′ : List ℕ) (rects′ : List ℤ) (reply : Reply ℕ) → CarriedOut (insertRule dot) s nodes dots rects s′ nodes′ dots′ rects′ reply
+    pub insert-answered : refusal ≡ 0 → {s′ : State} {nodes′ dots′ : List ℕ} {rects′ : List ℤ} {reply : Reply ℕ}
+        → CarriedOut (insertRule dot) s nodes dots rects s′ nodes′ dots′ rects′ reply
         → Insert (world s nodes dots rects marks) dot (world s′ nodes′ dots′ rects′ marks′) reply
     unfolding Insert
-    insert-answered z s′ nodes′ dots′ rects′ reply done = call-carried s nodes dots rects marks marks′ answer c (insertRule dot) [] z s′ nodes′ dots′ rects′ [] reply done
-
-  -- ---- remove
+    insert-answered z done = call-carried c (insertRule dot) [] z done
 
   module _ (id : ℕ) (r : AABB) where
-    pub remove-refused : (answer ≡ 0 → ⊥) → Remove (world s nodes dots rects marks) id r (world s nodes dots rects marks′) (refused answer)
+    pub remove-refused : (refusal ≡ 0 → ⊥) → Remove (world s nodes dots rects marks) id r (world s nodes dots rects marks′) (refused refusal)
     unfolding Remove
-    remove-refused ne = call-refused s nodes dots rects marks marks′ answer c (removeRule id r) [] ne
+    remove-refused ne = call-refused c (removeRule id r) [] ne
 
-    pub remove-answered : answer ≡ 0 → (s′ : State) (nodes′ dots′ : List ℕ) (rects′ : List ℤ) (reply : Reply Bool) → CarriedOut (removeRule id r) s nodes dots rects s′ nodes′ dots′ rects′ reply
+    pub remove-answered : refusal ≡ 0 → {s′ : State} {nodes′ dots′ : List ℕ} {rects′ : List ℤ} {reply : Reply Bool}
+        → CarriedOut (removeRule id r) s nodes dots rects s′ nodes′ dots′ rects′ reply
         → Remove (world s nodes dots rects marks) id r (world s′ nodes′ dots′ rects′ marks′) reply
     unfolding Remove
-    remove-answered z s′ nodes′ dots′ rects′ reply done = call-carried s nodes dots rects marks marks′ answer c (removeRule id r) [] z s′ nodes′ dots′ rects′ [] reply done
+    remove-answered z done = call-carried c (removeRule id r) [] z done
 
-  -- ---- cleanup
-
-  pub cleanup-refused : (answer ≡ 0 → ⊥) → Cleanup (world s nodes dots rects marks) (world s nodes dots rects marks′) (refused answer)
+  pub cleanup-refused : (refusal ≡ 0 → ⊥) → Cleanup (world s nodes dots rects marks) (world s nodes dots rects marks′) (refused refusal)
   unfolding Cleanup
-  cleanup-refused ne = call-refused s nodes dots rects marks marks′ answer c cleanupRule [] ne
+  cleanup-refused ne = call-refused c cleanupRule [] ne
 
-  pub cleanup-answered : answer ≡ 0 → (nodes′ : List ℕ) (r : Cleaning) → CleanedUp s nodes nodes′ r → Cleanup (world s nodes dots rects marks) (world (r .state) nodes′ dots rects marks′) (answered (r .yes))
+  pub cleanup-answered : refusal ≡ 0 → (nodes′ : List ℕ) (r : CleanupAnswer) → CleanedUp s nodes nodes′ r
+      → Cleanup (world s nodes dots rects marks) (world (cleanupState s r) nodes′ dots rects marks′) (cleanupReply r)
   unfolding Cleanup CleanedUp
-  cleanup-answered z nodes′ r done = call-carried s nodes dots rects marks marks′ answer c cleanupRule [] z (r .state) nodes′ dots rects [] (answered (r .yes)) (done dots rects)
+  cleanup-answered z nodes′ r done = call-carried c cleanupRule [] z (done dots rects)
+
+  -- ---- the calls that read it
+
+  module _ (q : AABB) (row : List ℕ) where
+    pub query-refused : (refusal ≡ 0 → ⊥) → Query (world s nodes dots rects marks) q row (world s nodes dots rects marks′) row (refused refusal)
+    unfolding Query
+    query-refused ne = call-refused c (queryRule q (length row)) row ne
+
+    pub query-answered : refusal ≡ 0 → (row′ : List ℕ) (reply : Reply Found) → Queried s q nodes dots rects row row′ reply
+        → Query (world s nodes dots rects marks) q row (world s nodes dots rects marks′) row′ reply
+    unfolding Query Queried
+    query-answered z row′ reply done = call-carried c (queryRule q (length row)) row z done
+
+  module _ (row : List ℕ) where
+    pub all-refused : (refusal ≡ 0 → ⊥) → All (world s nodes dots rects marks) row (world s nodes dots rects marks′) row (refused refusal)
+    all-refused ne = all-query _ _ _ _ _ .1 (query-refused (rootRect (s .settings)) row ne)
+
+    pub all-answered : refusal ≡ 0 → {q : AABB} → q ≡ rootRect (s .settings) → (row′ : List ℕ) (reply : Reply Found) → Queried s q nodes dots rects row row′ reply
+        → All (world s nodes dots rects marks) row (world s nodes dots rects marks′) row′ reply
+    all-answered z e row′ reply done =
+        all-query _ _ _ _ _ .1
+        (query-answered (rootRect (s .settings)) row z row′ reply (subst (λ (q : AABB). Queried s q nodes dots rects row row′ reply) e done))
+
+  module _ (row : List ℤ) where
+    pub leaves-refused : (refusal ≡ 0 → ⊥) → Leaves (world s nodes dots rects marks) row (world s nodes dots rects marks′) row (refused refusal)
+    unfolding Leaves
+    leaves-refused ne = call-refused c (leavesRule (length row)) row ne
+
+    pub leaves-answered : refusal ≡ 0 → (row′ : List ℤ) (reply : Reply ℕ) → LeavesListed s nodes row row′ reply
+        → Leaves (world s nodes dots rects marks) row (world s nodes dots rects marks′) row′ reply
+    unfolding Leaves LeavesListed
+    leaves-answered z row′ reply done = call-carried c (leavesRule (length row)) row z (done dots rects)
+
+  pub references-refused : (refusal ≡ 0 → ⊥) → References (world s nodes dots rects marks) (world s nodes dots rects marks′) (refused refusal)
+  unfolding References
+  references-refused ne = call-refused c referencesRule [] ne
+
+  -- the dots in all leaves are the live number
+  pub references-counted : refusal ≡ 0 → References (world s nodes dots rects marks) (world s nodes dots rects marks′) (answered (s .live))
+  unfolding References referencesRule references cleared
+  references-counted z =
+      call-carried c referencesRule [] z
+      (λ m x h.
+      let live = holds-represented (world s nodes dots rects m) x h .live in
+      λ i. exit (h .words i) [] (answered (live i)))

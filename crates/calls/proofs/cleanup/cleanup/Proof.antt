@@ -1,43 +1,33 @@
 -- The check, then the cleanup without it.
-use Rattle.calls.specs.Laws.Calls.{nodes-tree, cleanup-refused, cleanup-answered}
+use Rattle.calls.specs.Laws.Pattern.{checked-nodes}
+use Rattle.calls.specs.Laws.Calls.{cleanup-refused, cleanup-answered}
 use borrow.Author.Needs.{needs}
 use Rattle.calls.proofs.cleanup.cleanup.Statement.{statement}
 use Rattle.calls.proofs.cleanup.cleanup.Tie as tie
 
-check-requires : tie.Need-check-requires
-check-requires c κs = search needs
-
-same-length : tie.Need-same-length
-same-length c = search needs
-
-same-length-2 : tie.Need-same-length-2
-same-length-2 c = search needs
-
 returns : tie.Need-returns
-returns c = let a = c .before .before .before .before .before .before .before .before .before .args in cleanup-refused (a .state) (a .nodes .now) (a .dots .now) (a .rects .now) (a .marks .now) _ _ (c .before .before .before .check .ensures) (c .if1 .taken)
+returns c =
+    let checked : tie.After-check = search in
+    cleanup-refused (checked .check .ensures) (c .if1 .taken)
 
 cleanup-tree-requires : tie.Need-cleanup-tree-requires
-cleanup-tree-requires c κs = let a = c .before .before .before .before .before .before .before .before .before .before .args in nodes-tree (a .state) (a .nodes .now) (a .dots .now) (a .rects .now) (a .marks .now) _ _ (c .before .before .before .before .check .ensures) (c .before .if1 .left)
-
-same-length-3 : tie.Need-same-length-3
-same-length-3 c = search needs
-
-same-length-4 : tie.Need-same-length-4
-same-length-4 c = search needs
+cleanup-tree-requires c κs =
+    let tree : tie.Else1 = search in
+    let checked : tie.After-check = search in
+    checked-nodes (checked .check .ensures) (tree .if1 .left)
 
 returns-2 : tie.Need-returns-2
-returns-2 c = let a = c .before .before .before .before .before .before .before .before .before .before .before .before .before .before .args in
-    cleanup-answered (a .state) (a .nodes .now) (a .dots .now) (a .rects .now) (a .marks .now) _ _ (c .before .before .before .before .before .before .before .before .check .ensures) (c .before .before .before .before .before .if1 .left) _ (c .before .before .before .cleanup-tree .result) (c .before .before .before .cleanup-tree .ensures)
+returns-2 c =
+    let done : tie.After-cleanup-tree = search in
+    let tree : tie.Else1 = search in
+    let checked : tie.After-check = search in
+    cleanup-answered (checked .check .ensures) (tree .if1 .left) _ _ (done .cleanup-tree .ensures)
 
 pub cleanup-spec : {M : Type 1} → statement M
 cleanup-spec =
     tie.close
     (tie.spec
-    check-requires
-    same-length
-    same-length-2
-    returns
-    cleanup-tree-requires
-    same-length-3
-    same-length-4
-    returns-2)
+    -- the check
+    (λ c κs. search needs) (λ c. search needs) (λ c. search needs) returns
+    -- the operation
+    cleanup-tree-requires (λ c. search needs) (λ c. search needs) returns-2)

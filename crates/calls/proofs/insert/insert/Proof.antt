@@ -1,98 +1,33 @@
 -- The check, then the insert without it.
-use mathlib.Core.Path.{subst}
-use Rattle.model.specs.Calls.{insertRule}
-use Rattle.tree.specs.Operations.{CarriedOut}
-use Rattle.tree_insert.specs.declared.Inserted.{Inserted}
-use Rattle.tree_insert.specs.Answers.{insertedState, insertedReply}
 use Rattle.calls.specs.Laws.Pattern.{checked-tree}
 use Rattle.calls.specs.Laws.Calls.{insert-refused, insert-answered}
 use borrow.Author.Needs.{needs}
 use Rattle.calls.proofs.insert.insert.Statement.{statement}
 use Rattle.calls.proofs.insert.insert.Tie as tie
 
-check-requires : tie.Need-check-requires
-check-requires c κs = search needs
-
-same-length : tie.Need-same-length
-same-length c = search needs
-
-same-length-2 : tie.Need-same-length-2
-same-length-2 c = search needs
-
-same-length-3 : tie.Need-same-length-3
-same-length-3 c = search needs
-
-same-length-4 : tie.Need-same-length-4
-same-length-4 c = search needs
-
 returns : tie.Need-returns
-returns c = let a = c .before .before .before .before .before .before .before .before .before .before .before .args in insert-refused (a .state) (a .nodes .now) (a .dots .now) (a .rects .now) (a .marks .now) _ _ (c .before .before .before .check .ensures) (a .dot) (c .if1 .taken)
+returns c =
+    let checked : tie.After-check = search in
+    insert-refused (checked .check .ensures) _ (c .if1 .taken)
 
 insert-dot-requires : tie.Need-insert-dot-requires
-insert-dot-requires c κs = let a = c .before .before .before .before .before .before .before .before .before .before .before .before .before .before .args in checked-tree (a .state) (a .nodes .now) (a .dots .now) (a .rects .now) (a .marks .now) _ _ (c .before .before .before .before .before .before .check .ensures) (c .before .before .before .if1 .left)
-
-enum-known-number : tie.Need-enum-known-number
-enum-known-number c = search needs
-
-enum-known-splits : tie.Need-enum-known-splits
-enum-known-splits c = search needs
-
-same-length-5 : tie.Need-same-length-5
-same-length-5 c = search needs
-
-same-length-6 : tie.Need-same-length-6
-same-length-6 c = search needs
-
-same-length-7 : tie.Need-same-length-7
-same-length-7 c = search needs
-
-same-length-8 : tie.Need-same-length-8
-same-length-8 c = search needs
+insert-dot-requires c κs =
+    let tree : tie.Else1 = search in
+    let checked : tie.After-check = search in
+    checked-tree (checked .check .ensures) (tree .if1 .left)
 
 returns-2 : tie.Need-returns-2
-returns-2 c = let a = c .before .before .before .before .before .before .before .before .before .before .before .before .before .before .before .before .before .before .before .before .before .before .before .args in
-    let done = c .before .before .before .before .before .before .before .before .insert-dot in
-    insert-answered (a .state) (a .nodes .now) (a .dots .now) (a .rects .now) (a .marks .now) _ _ (c .before .before .before .before .before .before .before .before .before .before .before .before .before .before .before .check .ensures) (a .dot) (c .before .before .before .before .before .before .before .before .before .before .before .before .if1 .left) _ _ _ _ _
-    (subst (λ (r : Inserted). CarriedOut (insertRule (a .dot)) (a .state) (a .nodes .now) (a .dots .now) (a .rects .now) (insertedState (a .state) r) (done .last .1 .1 .0) (done .last .1 .1 .1 .0) (done .last .1 .1 .1 .1 .0) (insertedReply r)) (c .before .number .given .1) (done .ensures))
-
-same-length-9 : tie.Need-same-length-9
-same-length-9 c = search needs
-
-same-length-10 : tie.Need-same-length-10
-same-length-10 c = search needs
-
-same-length-11 : tie.Need-same-length-11
-same-length-11 c = search needs
-
-same-length-12 : tie.Need-same-length-12
-same-length-12 c = search needs
-
-returns-3 : tie.Need-returns-3
-returns-3 c = let a = c .before .before .before .before .before .before .before .before .before .before .before .before .before .before .before .before .before .before .before .before .before .before .before .args in
-    let done = c .before .before .before .before .before .before .before .before .insert-dot in
-    insert-answered (a .state) (a .nodes .now) (a .dots .now) (a .rects .now) (a .marks .now) _ _ (c .before .before .before .before .before .before .before .before .before .before .before .before .before .before .before .check .ensures) (a .dot) (c .before .before .before .before .before .before .before .before .before .before .before .before .if1 .left) _ _ _ _ _
-    (subst (λ (r : Inserted). CarriedOut (insertRule (a .dot)) (a .state) (a .nodes .now) (a .dots .now) (a .rects .now) (insertedState (a .state) r) (done .last .1 .1 .0) (done .last .1 .1 .1 .0) (done .last .1 .1 .1 .1 .0) (insertedReply r)) (c .before .splits .given .1) (done .ensures))
+returns-2 c =
+    let done : tie.After-insert-dot = search in
+    let tree : tie.Else1 = search in
+    let checked : tie.After-check = search in
+    insert-answered (checked .check .ensures) _ (tree .if1 .left) (done .insert-dot .ensures)
 
 pub insert-spec : {M : Type 1} → statement M
 insert-spec =
     tie.close
     (tie.spec
-    check-requires
-    same-length
-    same-length-2
-    same-length-3
-    same-length-4
-    returns
-    insert-dot-requires
-    enum-known-number
-    enum-known-splits
-    same-length-5
-    same-length-6
-    same-length-7
-    same-length-8
-    returns-2
-    same-length-9
-    same-length-10
-    same-length-11
-    same-length-12
-    returns-3)
+    -- the check
+    (λ c κs. search needs) (λ c. search needs) (λ c. search needs) (λ c. search needs) (λ c. search needs) returns
+    -- the operation
+    insert-dot-requires (λ c. search needs) (λ c. search needs) (λ c. search needs) (λ c. search needs) returns-2)
