@@ -1,7 +1,7 @@
 -- What the steps of a batch leave.
---     Leaves       what a record leaves, for every marks and shape that the words hold
---     Stepped      the same with the answer row
---     Begun        the check of all that a batch is lent
+--     RecordCarriedOut     what a record leaves, for every marks and shape that the words hold
+--     Stepped              the same with the answer row
+--     Begun                the check of all that a batch is lent
 use mathlib.Core.Path.{_≡_}
 use mathlib.Core.List.{List}
 use Prim.Native.Nat.{ℕ}
@@ -20,8 +20,8 @@ abbrev pub recordOf : ℕ → Dot → Record
 recordOf kind dot = record { kind = kind; dot = dot }
 
 -- the words hold the shape that the rule leaves, and the answer is its word
-unfoldable pub Leaves : (Shape → Recorded) → State → List ℕ → List ℕ → List ℤ → State → List ℕ → List ℕ → List ℤ → ℕ → Type 0
-Leaves rule s nodes dots rects s′ nodes′ dots′ rects′ word =
+abbrev pub RecordCarriedOut : (Shape → Recorded) → State → List ℕ → List ℕ → List ℤ → State → List ℕ → List ℕ → List ℤ → ℕ → Type 0
+RecordCarriedOut rule s nodes dots rects s′ nodes′ dots′ rects′ word =
     (marks : List ℕ) (x : Shape) → Holds (world s nodes dots rects marks) x
     → Holds (world s′ nodes′ dots′ rects′ marks) (rule x .shape) × (word ≡ rule x .word)
 

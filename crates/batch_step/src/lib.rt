@@ -2,18 +2,20 @@
 ghost use mathlib.Core.Path.{_≡_};
 ghost use Prim.Native.Nat.{_<_, _≤_};
 ghost use lib.ListN.{length};
+ghost use Rattle.model.specs.declared.Dot.{Dot};
 ghost use Rattle.model.specs.Calls.{carryOut, refusedWord};
 ghost use Rattle.tree.specs.Operations.{IsTree};
-ghost use Rattle.batch_step.specs.Steps.{recordOf, Leaves, Stepped, Begun};
+ghost use Rattle.batch_step.specs.Steps.{recordOf, RecordCarriedOut, Stepped, Begun};
 use model::Dot;
 use model::Record;
 use model::State;
+use model::answers::CleanupAnswer;
+use model::answers::InsertAnswer;
+use model::answers::RemoveAnswer;
 use model::yes_no;
 use tree_check::check::check;
 use tree_cleanup::cleanup_tree;
-use tree_insert::Inserted;
 use tree_insert::insert_dot;
-use tree_remove::Removed;
 use tree_remove::remove_dot;
 
 // The refusal of the whole batch, or 0; how many records it carries out; the state after it.
@@ -40,20 +42,20 @@ fn refused_word(refusal: u32) -> u32
 // An insert, with its answer word.
 fn insert_record(
     state: State,
-    dot: Dot,
     nodes: &mut [u32],
     dots: &mut [u32],
     rects: &mut [i32],
+    dot: Dot,
 ) -> Recorded
     requires { ⌜ IsTree state (now nodes) (now dots) (now rects) ⌝ }
-    ensures { λ r. ⌜ Leaves (carryOut (recordOf 0 dot)) state (now (nodes .entry)) (now (dots .entry)) (now (rects .entry)) (r .state) (now (nodes .exit)) (now (dots .exit)) (now (rects .exit)) (r .word) ⌝ }
+    ensures { λ r. ⌜ RecordCarriedOut (carryOut (recordOf 0 dot)) state (now (nodes .entry)) (now (dots .entry)) (now (rects .entry)) (r .state) (now (nodes .exit)) (now (dots .exit)) (now (rects .exit)) (r .word) ⌝ }
 {
-    match insert_dot(state, dot, nodes, dots, rects) {
-        Inserted::Refused(number) => Recorded {
-            word: refused_word(number),
+    match insert_dot(state, nodes, dots, rects, dot) {
+        InsertAnswer::Refused(refusal) => Recorded {
+            word: refused_word(refusal),
             state,
         },
-        Inserted::Done(splits, next) => Recorded {
+        InsertAnswer::Splits(splits, next) => Recorded {
             word: splits,
             state: state.changed(next.free_group, next.free_place, next.live),
         },
@@ -63,49 +65,65 @@ fn insert_record(
 // A remove, with its answer word.
 fn remove_record(
     state: State,
-    dot: Dot,
     nodes: &mut [u32],
     dots: &mut [u32],
     rects: &mut [i32],
+    dot: Dot,
 ) -> Recorded
     requires { ⌜ IsTree state (now nodes) (now dots) (now rects) ⌝ }
-    ensures { λ r. ⌜ Leaves (carryOut (recordOf 1 dot)) state (now (nodes .entry)) (now (dots .entry)) (now (rects .entry)) (r .state) (now (nodes .exit)) (now (dots .exit)) (now (rects .exit)) (r .word) ⌝ }
+    ensures { λ r. ⌜ RecordCarriedOut (carryOut (recordOf 1 dot)) state (now (nodes .entry)) (now (dots .entry)) (now (rects .entry)) (r .state) (now (nodes .exit)) (now (dots .exit)) (now (rects .exit)) (r .word) ⌝ }
 {
-    match remove_dot(state, dot.id, dot.rect, nodes, dots, rects) {
-        Removed::Yes(next) => Recorded {
+    match remove_dot(state, nodes, dots, rects, dot.id, dot.rect) {
+        RemoveAnswer::Refused(refusal) => Recorded {
+            word: refused_word(refusal),
+            state,
+        },
+        RemoveAnswer::Yes(next) => Recorded {
             word: 1,
             state: state.changed(next.free_group, next.free_place, next.live),
         },
-        Removed::No => Recorded { word: 0, state },
+        RemoveAnswer::No => Recorded { word: 0, state },
+    }
+}
+
+// A cleanup, with its answer word; its record's dot is not looked at.
+fn cleanup_record(state: State, nodes: &mut [u32], dots: &[u32], rects: &[i32]) -> Recorded
+    requires { ⌜ IsTree state (now nodes) (now dots) (now rects) ⌝ }
+    ensures { λ r. ⌜ ((dot : Dot) → RecordCarriedOut (carryOut (recordOf 2 dot)) state (now (nodes .entry)) (now (dots .entry)) (now (rects .entry)) (r .state) (now (nodes .exit)) (now (dots .exit)) (now (rects .exit)) (r .word)) ⌝ }
+{
+    match cleanup_tree(state, nodes) {
+        CleanupAnswer::Refused(refusal) => Recorded {
+            word: refused_word(refusal),
+            state,
+        },
+        CleanupAnswer::Done(yes, next) => Recorded {
+            word: yes_no(yes),
+            state: state.changed(next.free_group, next.free_place, next.live),
+        },
     }
 }
 
 // A record is the single operation of its kind.
 fn carry_out(
     state: State,
-    record: Record,
     nodes: &mut [u32],
     dots: &mut [u32],
     rects: &mut [i32],
+    record: Record,
 ) -> Recorded
     requires { ⌜ IsTree state (now nodes) (now dots) (now rects) ⌝ }
-    ensures { λ r. ⌜ Leaves (carryOut «record») state (now (nodes .entry)) (now (dots .entry)) (now (rects .entry)) (r .state) (now (nodes .exit)) (now (dots .exit)) (now (rects .exit)) (r .word) ⌝ }
+    ensures { λ r. ⌜ RecordCarriedOut (carryOut «record») state (now (nodes .entry)) (now (dots .entry)) (now (rects .entry)) (r .state) (now (nodes .exit)) (now (dots .exit)) (now (rects .exit)) (r .word) ⌝ }
 {
     let kind = record.kind;
     let dot = record.dot;
     if kind == 0 {
-        return insert_record(state, dot, nodes, dots, rects);
+        return insert_record(state, nodes, dots, rects, dot);
     }
     if kind == 1 {
-        return remove_record(state, dot, nodes, dots, rects);
+        return remove_record(state, nodes, dots, rects, dot);
     }
     if kind == 2 {
-        let done = cleanup_tree(state, nodes);
-        let next = done.state;
-        return Recorded {
-            word: yes_no(done.yes),
-            state: state.changed(next.free_group, next.free_place, next.live),
-        };
+        return cleanup_record(state, nodes, dots, rects);
     }
     Recorded {
         word: refused_word(9),
@@ -127,7 +145,7 @@ pub fn one(
     ensures { λ r. ⌜ Stepped «record» i batched (now (answers .entry)) (now (nodes .entry)) (now (dots .entry)) (now (rects .entry)) r (now (answers .exit)) (now (nodes .exit)) (now (dots .exit)) (now (rects .exit)) ⌝ }
 {
     let state = batched.state;
-    let done = carry_out(state, record, nodes, dots, rects);
+    let done = carry_out(state, nodes, dots, rects, record);
     answers[i] = done.word;
     let after = done.state;
     Batched {
