@@ -2,8 +2,9 @@
 --     Lent         the rows: state, nodes, dots, rectangles, marks, answer
 --     resultOf     what is returned: 0 or the refusal, 8 with 256 times the number wanted added
 --     stateRow, answerRow      the state row and the answer row after a reply; a refused call leaves them as they were
+--     Out          an answer row and a result, by a reply
 --     Exported     THE PATTERN: refusal 1 where the host's own rows don't fit, else the call
---     Inserts, Removes, CleansUp, Queries, ListsAll, ListsLeaves, Counts, Batches, Makes, Checks
+--     Inserts, Removes, CleansUp, Queries, ListsAll, ListsLeaves, CountsDots, Batches, Makes, Checks
 use mathlib.Core.Path.{_≡_}
 use mathlib.Core.List.{List, [], _∷_}
 use mathlib.Core.Bool.{Bool, true, false}
@@ -15,8 +16,8 @@ use Rattle.model.specs.declared.State.{State}
 use Rattle.model.specs.Layout.{World, world}
 use Rattle.model.specs.declared.answers.Found.{Found}
 use Rattle.model.specs.Calls.{Reply, refused, tooMany, answered, yesNo, Insert, Remove, Cleanup, Query, All, Leaves, References, Make, Batch}
-use Rattle.memory.specs.declared.make.Making.{Making}
-use Rattle.memory.specs.Fresh.{stateAfter, replyOf}
+use Rattle.model.specs.declared.answers.MakeAnswer.{MakeAnswer}
+use Rattle.model.specs.Answers.{makeReply, makeState}
 use Rattle.tree_check.specs.Checks.{Checked}
 use Rattle.host.specs.Rows.{settingsIn, stateIn, withState, rowsFit}
 use Rattle.host.specs.Records.{recordsIn, batchFits}
@@ -60,12 +61,18 @@ yesOrNo yes? = yesNo yes? ∷ 0 ∷ []
 abbrev pub hitsOpened : Found → List ℕ
 hitsOpened l = l .hits ∷ l .opened ∷ []
 
+-- the answer row and what is returned, by the reply
+pub record Out {A : Type 0} (words : A → List ℕ) (reply : Reply A) (row row′ : List ℕ) (result : ℕ) : Type 0 where
+  pub answer : row′ ≡ answerRow words row reply
+  pub returned : result ≡ resultOf reply
+
 -- says: the call, from the world and its row of answers before to those after, with its reply
-pub record Exported {B A : Type 0} (fits : Bool) (words : A → List ℕ) (says : World → List B → World → List B → Reply A → Type 0) (l : Lent) (row : List B) (l′ : Lent) (row′ : List B) (result : ℕ) : Type 0 where
+pub record Exported {B A : Type 0} (fits : Bool) (words : A → List ℕ) (says : World → List B → World → List B → Reply A → Type 0)
+    (l : Lent) (row : List B) (l′ : Lent) (row′ : List B) (result : ℕ) : Type 0 where
   pub otherLength : fits ≡ false → (l′ ≡ l) × (row′ ≡ row) × (result ≡ 1)
   pub carriedOut : fits ≡ true
       → (s : State) × (reply : Reply A) × says (worldOf (stateIn (l .state)) l) row (worldOf s l′) row′ reply
-      × (l′ .state ≡ stateRow s (l .state) reply) × (l′ .answer ≡ answerRow words (l .answer) reply) × (result ≡ resultOf reply)
+      × (l′ .state ≡ stateRow s (l .state) reply) × Out words reply (l .answer) (l′ .answer) result
 
 -- ---- the calls
 
@@ -81,8 +88,8 @@ abbrev pub CleansUp : Lent → Lent → ℕ → Type 0
 CleansUp l l′ result =
     Exported (rowsFit (l .state) (l .answer)) yesOrNo (λ (w : World) (row : List ℕ) (w′ : World) (row′ : List ℕ) (reply : Reply Bool). Cleanup w w′ reply) l [] l′ [] result
 
-abbrev pub Counts : Lent → Lent → ℕ → Type 0
-Counts l l′ result =
+abbrev pub CountsDots : Lent → Lent → ℕ → Type 0
+CountsDots l l′ result =
     Exported (rowsFit (l .state) (l .answer)) number (λ (w : World) (row : List ℕ) (w′ : World) (row′ : List ℕ) (reply : Reply ℕ). References w w′ reply) l [] l′ [] result
 
 abbrev pub Queries : AABB → Lent → List ℕ → Lent → List ℕ → ℕ → Type 0
@@ -103,14 +110,14 @@ Batches records l answers l′ answers′ result =
 
 -- ---- make, which has no answer row, and the check alone
 
-abbrev pub madeRow : Making → List ℕ → List ℕ
-madeRow m row = stateRow (stateAfter (stateIn row) m) row (replyOf m)
+abbrev pub madeRow : MakeAnswer → List ℕ → List ℕ
+madeRow m row = stateRow (makeState (stateIn row) m) row (makeReply m)
 
 pub record Makes (row nodes dots : List ℕ) (rects : List ℤ) (marks row′ nodes′ dots′ : List ℕ) (rects′ : List ℤ) (marks′ : List ℕ) (result : ℕ) : Type 0 where
   pub otherLength : (length row ≡ 10 → ⊥) → (result ≡ 1) × (row′ ≡ row) × (nodes′ ≡ nodes) × (dots′ ≡ dots) × (rects′ ≡ rects) × (marks′ ≡ marks)
   pub carriedOut : length row ≡ 10
-      → (m : Making) × ((before : State) → Make (world before nodes dots rects marks) (settingsIn row) (world (stateAfter before m) nodes′ dots′ rects′ marks′) (replyOf m))
-      × (result ≡ resultOf (replyOf m)) × (row′ ≡ madeRow m row)
+      → (m : MakeAnswer) × ((before : State) → Make (world before nodes dots rects marks) (settingsIn row) (world (makeState before m) nodes′ dots′ rects′ marks′) (makeReply m))
+      × (result ≡ resultOf (makeReply m)) × (row′ ≡ madeRow m row)
 
 pub record Checks (row nodes dots : List ℕ) (rects : List ℤ) (marks marks′ : List ℕ) (result : ℕ) : Type 0 where
   pub otherLength : (length row ≡ 10 → ⊥) → (result ≡ 1) × (marks′ ≡ marks)

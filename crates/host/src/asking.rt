@@ -1,16 +1,14 @@
 // The calls that leave the tree as it is: query, all, leaves, references, and the check alone.
 ghost use Rattle.host.specs.Rows.{rectOf};
-ghost use Rattle.host.specs.Exports.{lent, Queries, ListsAll, ListsLeaves, Counts, Checks};
-use crate::rows::answer_out;
+ghost use Rattle.host.specs.Exports.{lent, Queries, ListsAll, ListsLeaves, CountsDots, Checks};
+use crate::answers::leaves_out;
+use crate::answers::query_out;
+use crate::answers::references_out;
 use crate::rows::rows_fit;
 use crate::rows::state_in;
-use crate::rows::too_many;
-use calls::leaves::LeavesAnswer;
 use calls::leaves::leaves;
-use calls::query::QueryAnswer;
 use calls::query::all;
 use calls::query::query;
-use calls::references::Counted;
 use calls::references::references;
 use geometry::aabb::AABB;
 use tree_check::check::check;
@@ -37,14 +35,8 @@ pub extern "C" fn krakvinge_query(
     }
     let before = state_in(state);
     let rect = AABB { x1, y1, x2, y2 };
-    match query(before, nodes, dots, rects, marks, rect, ids) {
-        QueryAnswer::Refused(refusal) => refusal as u64,
-        QueryAnswer::TooMany(many) => too_many(many),
-        QueryAnswer::Listed(hits, opened) => {
-            answer_out(answer, hits, opened);
-            0
-        }
-    }
+    let done = query(before, nodes, dots, rects, marks, rect, ids);
+    query_out(answer, done)
 }
 
 // A query with the root's rectangle.
@@ -64,14 +56,8 @@ pub extern "C" fn krakvinge_all(
         return 1;
     }
     let before = state_in(state);
-    match all(before, nodes, dots, rects, marks, ids) {
-        QueryAnswer::Refused(refusal) => refusal as u64,
-        QueryAnswer::TooMany(many) => too_many(many),
-        QueryAnswer::Listed(hits, opened) => {
-            answer_out(answer, hits, opened);
-            0
-        }
-    }
+    let done = all(before, nodes, dots, rects, marks, ids);
+    query_out(answer, done)
 }
 
 // Six numbers a leaf: centre x, centre y, half width, half height, depth, count; the answer is the number of leaves.
@@ -91,14 +77,8 @@ pub extern "C" fn krakvinge_leaves(
         return 1;
     }
     let before = state_in(state);
-    match leaves(before, nodes, dots, rects, marks, row) {
-        LeavesAnswer::Refused(refusal) => refusal as u64,
-        LeavesAnswer::TooMany(many) => too_many(many),
-        LeavesAnswer::Listed(many) => {
-            answer_out(answer, many, 0);
-            0
-        }
-    }
+    let done = leaves(before, nodes, dots, rects, marks, row);
+    leaves_out(answer, done)
 }
 
 // The dots in all leaves; the answer is their number.
@@ -111,19 +91,14 @@ pub extern "C" fn krakvinge_references(
     marks: &mut [u8],
     answer: &mut [u32],
 ) -> u64
-    ensures { λ r. ⌜ Counts (lent (now (state .entry)) (now (nodes .entry)) (now (dots .entry)) (now (rects .entry)) (now (marks .entry)) (now (answer .entry))) (lent (now (state .exit)) (now (nodes .exit)) (now (dots .exit)) (now (rects .exit)) (now (marks .exit)) (now (answer .exit))) r ⌝ }
+    ensures { λ r. ⌜ CountsDots (lent (now (state .entry)) (now (nodes .entry)) (now (dots .entry)) (now (rects .entry)) (now (marks .entry)) (now (answer .entry))) (lent (now (state .exit)) (now (nodes .exit)) (now (dots .exit)) (now (rects .exit)) (now (marks .exit)) (now (answer .exit))) r ⌝ }
 {
     if !rows_fit(state, answer) {
         return 1;
     }
     let before = state_in(state);
-    match references(before, nodes, dots, rects, marks) {
-        Counted::Refused(refusal) => refusal as u64,
-        Counted::Count(count) => {
-            answer_out(answer, count, 0);
-            0
-        }
-    }
+    let done = references(before, nodes, dots, rects, marks);
+    references_out(answer, done)
 }
 
 // The check that each call begins with, alone: 0 where the rows are a tree.

@@ -46,13 +46,13 @@ fn batch_fits(state: &[u32], records: &[u32]) -> bool
 
 // The check once, then every record.
 fn carry_out_all(
-    records: &[u32],
     state: State,
-    answers: &mut [u32],
     nodes: &mut [u32],
     dots: &mut [u32],
     rects: &mut [i32],
     marks: &mut [u8],
+    records: &[u32],
+    answers: &mut [u32],
 ) -> Batched
     ensures { λ r. ⌜ Batch (world state (now (nodes .entry)) (now (dots .entry)) (now (rects .entry)) (now (marks .entry))) (recordsIn (now (records .entry))) (now (answers .entry)) (world (r .state) (now (nodes .exit)) (now (dots .exit)) (now (rects .exit)) (now (marks .exit))) (now (answers .exit)) (batchReply r) ⌝ }
 {
@@ -85,7 +85,7 @@ pub extern "C" fn krakvinge_batch(
         return 1;
     }
     let before = state_in(state);
-    let done = carry_out_all(records, before, answers, nodes, dots, rects, marks);
+    let done = carry_out_all(before, nodes, dots, rects, marks, records, answers);
     if done.refusal != 0 {
         return done.refusal as u64;
     }

@@ -1,22 +1,19 @@
 // The calls that change the tree: make, insert, remove, cleanup.
 ghost use Rattle.host.specs.Rows.{rectOf};
 ghost use Rattle.host.specs.Exports.{lent, Makes, Inserts, Removes, CleansUp};
-use crate::rows::answer_out;
+use crate::answers::cleanup_out;
+use crate::answers::insert_out;
+use crate::answers::make_out;
+use crate::answers::remove_out;
 use crate::rows::rows_fit;
 use crate::rows::settings_in;
 use crate::rows::state_in;
-use crate::rows::state_out;
-use calls::cleanup::CleanupAnswer;
 use calls::cleanup::cleanup;
-use calls::insert::InsertAnswer;
 use calls::insert::insert;
-use calls::remove::RemoveAnswer;
+use calls::make::make;
 use calls::remove::remove;
 use geometry::aabb::AABB;
-use memory::make::Making;
-use memory::make::make;
 use model::Dot;
-use model::yes_no;
 
 // Makes the rows a fresh tree with the settings of the state row, and writes its free heads and live number there.
 #[no_mangle]
@@ -33,13 +30,8 @@ pub extern "C" fn krakvinge_make(
         return 1;
     }
     let settings = settings_in(state);
-    match make(settings, nodes, dots, rects, marks) {
-        Making::Refused(refusal) => refusal as u64,
-        Making::Made(made) => {
-            state_out(state, made);
-            0
-        }
-    }
+    let done = make(settings, nodes, dots, rects, marks);
+    make_out(state, done)
 }
 
 // A dot with its id and rectangle; the answer is the number of splits.
@@ -64,14 +56,8 @@ pub extern "C" fn krakvinge_insert(
     }
     let before = state_in(state);
     let rect = AABB { x1, y1, x2, y2 };
-    match insert(before, nodes, dots, rects, marks, Dot { id, rect }) {
-        InsertAnswer::Refused(refusal) => refusal as u64,
-        InsertAnswer::Splits(splits, after) => {
-            state_out(state, after);
-            answer_out(answer, splits, 0);
-            0
-        }
-    }
+    let done = insert(before, nodes, dots, rects, marks, Dot { id, rect });
+    insert_out(state, answer, done)
 }
 
 // The first dot with the id in the leaf that the rectangle routes to; the answer is 1 for yes, 0 for no.
@@ -96,18 +82,8 @@ pub extern "C" fn krakvinge_remove(
     }
     let before = state_in(state);
     let rect = AABB { x1, y1, x2, y2 };
-    match remove(before, nodes, dots, rects, marks, id, rect) {
-        RemoveAnswer::Refused(refusal) => refusal as u64,
-        RemoveAnswer::Yes(after) => {
-            state_out(state, after);
-            answer_out(answer, 1, 0);
-            0
-        }
-        RemoveAnswer::No => {
-            answer_out(answer, 0, 0);
-            0
-        }
-    }
+    let done = remove(before, nodes, dots, rects, marks, id, rect);
+    remove_out(state, answer, done)
 }
 
 // Branches with five empty children become empty leaves, one level a call; the answer is 1 for yes, 0 for no.
@@ -126,12 +102,6 @@ pub extern "C" fn krakvinge_cleanup(
         return 1;
     }
     let before = state_in(state);
-    match cleanup(before, nodes, dots, rects, marks) {
-        CleanupAnswer::Refused(refusal) => refusal as u64,
-        CleanupAnswer::Done(yes, after) => {
-            state_out(state, after);
-            answer_out(answer, yes_no(yes), 0);
-            0
-        }
-    }
+    let done = cleanup(before, nodes, dots, rects, marks);
+    cleanup_out(state, answer, done)
 }

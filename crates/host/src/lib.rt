@@ -4,6 +4,7 @@
 // two words: insert its splits and 0; remove and cleanup 1 or 0, and 0; query and all hits and opened; leaves and references their number and 0.
 // A state row or an answer row of another length is refusal 1. A refused call leaves both as they were. A batch has a row of answers instead, a word
 // for each record, and its records are a row of words, six for each; another length is refusal 1.
+pub mod answers;
 pub mod asking;
 pub mod batching;
 pub mod changing;

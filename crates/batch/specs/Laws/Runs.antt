@@ -78,7 +78,7 @@ module _ (rs : List Record) (s : State) (answers nodes dots : List ℕ) (rects :
         let z = going l in
         let e = equal-rows z in
         let n = p .accepted z in
-        let t = checked-tree s nodes dots rects marks (w .marks) (w .batched .refusal) (p .checked e) z in
+        let t = checked-tree (p .checked e) z in
         let small : i < length rs = omega (arith, l, n) in
         (small, record { marks = t .marks; shape = batchShape (take i rs) (t .shape); holds = p .run (t .marks) (t .shape) (t .holds) .0 }, omega (arith, small, e, len))
 

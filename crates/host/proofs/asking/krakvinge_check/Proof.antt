@@ -1,5 +1,5 @@
 -- A row of another length, or the check.
-use Rattle.host.specs.Laws.{check-other, check-row}
+use Rattle.host.specs.Laws.Exports.{check-other, check-row}
 use borrow.Author.Needs.{needs}
 use Rattle.host.proofs.asking.krakvinge_check.Statement.{statement}
 use Rattle.host.proofs.asking.krakvinge_check.Tie as tie

@@ -9,19 +9,19 @@ use Rattle.batch_step.specs.Steps.{Begun}
 use Rattle.batch.specs.Runs.{words, Progress}
 use Rattle.batch.specs.Laws.Runs.{progress-begun, progress-ready, progress-step, progress-done}
 use Rattle.host.specs.Records.{recordsIn}
-use Rattle.host.specs.Laws.{records-length, begun-records, stepped-record}
+use Rattle.host.specs.Laws.Records.{records-length, begun-records, stepped-record}
 use borrow.Author.Needs.{needs}
 use Rattle.host.proofs.batching.carry_out_all.Statement.{statement}
 use Rattle.host.proofs.batching.carry_out_all.Tie as tie
 
 abbrev Inv-loop : tie.InvT-loop
-Inv-loop records answers₀ nodes₀ dots₀ rects₀ marks many batched₀ count i₀ answers nodes dots rects batched i =
+Inv-loop nodes₀ dots₀ rects₀ marks records answers₀ many batched₀ count i₀ nodes dots rects answers batched i =
     (i ≤ count) × (batched .count ≡ count) × (length answers ≡ length answers₀) × (length nodes ≡ length nodes₀) × (length dots ≡ length dots₀) × (length rects ≡ length rects₀)
     × ((s : State) (before : List ℕ) → Begun (length (recordsIn records)) (length answers₀) s nodes₀ dots₀ rects₀ before batched₀ marks
     → Progress (recordsIn records) s answers₀ nodes₀ dots₀ rects₀ before i (words batched answers nodes dots rects marks))
 
 abbrev μ-loop : tie.MeasureT-loop
-μ-loop records answers₀ nodes₀ dots₀ rects₀ marks many batched₀ count i₀ answers nodes dots rects batched i =
+μ-loop nodes₀ dots₀ rects₀ marks records answers₀ many batched₀ count i₀ nodes dots rects answers batched i =
     count - i
 
 begin-requires : tie.Need-begin-requires Inv-loop μ-loop
@@ -83,19 +83,19 @@ loop-again c =
     )
 
 same-length : tie.Need-same-length Inv-loop μ-loop
-same-length c = c .before .loop .inv .2
+same-length c = c .before .loop .inv .3
 
 same-length-2 : tie.Need-same-length-2 Inv-loop μ-loop
-same-length-2 c = c .before .loop .inv .3
+same-length-2 c = c .before .loop .inv .4
 
 same-length-3 : tie.Need-same-length-3 Inv-loop μ-loop
-same-length-3 c = c .before .loop .inv .4
+same-length-3 c = c .before .loop .inv .5
 
 same-length-4 : tie.Need-same-length-4 Inv-loop μ-loop
-same-length-4 c = c .before .loop .inv .5
+same-length-4 c = search needs
 
 same-length-5 : tie.Need-same-length-5 Inv-loop μ-loop
-same-length-5 c = search needs
+same-length-5 c = c .before .loop .inv .2
 
 returns : tie.Need-returns Inv-loop μ-loop
 returns c =

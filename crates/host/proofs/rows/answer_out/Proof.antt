@@ -1,5 +1,5 @@
 -- Two stores fill the row.
-use Rattle.host.specs.Laws.{answer-words}
+use Rattle.host.specs.Laws.Rows.{answer-words}
 use borrow.Author.Needs.{needs}
 use Rattle.host.proofs.rows.answer_out.Statement.{statement}
 use Rattle.host.proofs.rows.answer_out.Tie as tie

@@ -6,7 +6,7 @@ use lib.IntN.{pos}
 use mir.Syntax.{w32, w64}
 use mir.Val.{toZ}
 use mir.Facts.{toZ-pos, toZ-ofZ}
-use Rattle.host.specs.Laws.{signed-near, signed-far, far-wide, far-narrow}
+use Rattle.host.specs.Laws.Rows.{signed-near, signed-far, far-wide, far-narrow}
 use borrow.Author.Needs.{needs}
 use Rattle.host.proofs.rows.signed.Statement.{statement}
 use Rattle.host.proofs.rows.signed.Tie as tie
