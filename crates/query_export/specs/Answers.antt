@@ -9,8 +9,8 @@ use Rattle.model.specs.declared.answers.Found.{Found}
 use Rattle.model.specs.Calls.{Reply}
 use Rattle.tree_query.specs.Answers.{Queried}
 use Rattle.host.specs.Rows.{stateIn}
-use Rattle.host.specs.Exports.{resultOf, answerRow, hitsOpened}
+use Rattle.host.specs.Exports.{hitsOpened, Out}
 
 abbrev pub Lists : AABB → List ℕ → List ℕ → List ℕ → List ℤ → List ℕ → List ℕ → List ℕ → List ℕ → ℕ → Type 0
 Lists q state nodes dots rects ids answer ids′ answer′ result =
-    (reply : Reply Found) × Queried (stateIn state) q nodes dots rects ids ids′ reply × (answer′ ≡ answerRow hitsOpened answer reply) × (result ≡ resultOf reply)
+    (reply : Reply Found) × Queried (stateIn state) q nodes dots rects ids ids′ reply × Out hitsOpened reply answer answer′ result

@@ -5,10 +5,8 @@ ghost use Rattle.tree.specs.Operations.{IsTree};
 ghost use Rattle.host.specs.Rows.{stateIn, rectOf};
 ghost use Rattle.query_export.specs.Answers.{Lists};
 use geometry::aabb::AABB;
-use host::rows::answer_out;
+use host::answers::query_out;
 use host::rows::state_in;
-use host::rows::too_many;
-use tree_query::query::Listing;
 use tree_query::query::query_row;
 
 // The rows and the result as host's query has them.
@@ -30,11 +28,6 @@ pub extern "C" fn krakvinge_query_unchecked(
 {
     let before = state_in(state);
     let rect = AABB { x1, y1, x2, y2 };
-    match query_row(before, rect, nodes, dots, rects, ids) {
-        Listing::TooMany(many) => too_many(many),
-        Listing::Listed(hits, opened) => {
-            answer_out(answer, hits, opened);
-            0
-        }
-    }
+    let done = query_row(before, nodes, dots, rects, rect, ids);
+    query_out(answer, done)
 }

@@ -7,25 +7,14 @@ use Rattle.host.proofs.asking.krakvinge_check.Tie as tie
 returns : tie.Need-returns
 returns c = check-other _ _ _ _ _ (c .if1 .taken)
 
-state-in-requires : tie.Need-state-in-requires
-state-in-requires c κs = search needs
-
-check-requires : tie.Need-check-requires
-check-requires c κs = search needs
-
-cast-result : tie.Need-cast-result
-cast-result c = search needs
-
-same-length : tie.Need-same-length
-same-length c = search needs
-
 returns-2 : tie.Need-returns-2
 returns-2 c =
-    let c2 = c .before .before in
-    let c4 = c2 .before .before in
-    let c5 = c4 .before in
-    check-row _ _ _ _ _ _ _ _ (c5 .if1 .left) (c4 .state-in .ensures) (c2 .check .ensures)
+    let at-state-in : tie.After-state-in = search in
+    let at-else1 : tie.Else1 = search in
+    check-row _ _ _ _ _ _ _ _ (at-else1 .if1 .left) (at-state-in .state-in .ensures) (c .before .before .check .ensures)
 
 pub krakvinge-check-spec : {M : Type 1} → statement M
 krakvinge-check-spec =
-    tie.close (tie.spec returns state-in-requires check-requires cast-result same-length returns-2)
+    tie.close (tie.spec
+    returns (λ c κs. search needs) (λ c κs. search needs) (λ c. search needs) (λ c. search needs)
+    returns-2)

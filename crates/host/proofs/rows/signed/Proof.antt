@@ -17,12 +17,6 @@ wide c = toZ-pos w64 (omega (arith, c .fits .word))
 word : (c : tie.Start) → c .args .word < 4294967296
 word c = omega (arith, c .fits .word)
 
-cast-result : tie.Need-cast-result
-cast-result c = search needs
-
-cast-result-2 : tie.Need-cast-result-2
-cast-result-2 c = search needs
-
 sub-result : tie.Need-sub-result
 sub-result c =
     let c1 = c .before in
@@ -43,4 +37,5 @@ returns-2 c =
 
 pub signed-spec : {M : Type 1} → statement M
 signed-spec =
-    tie.close (tie.spec cast-result cast-result-2 sub-result cast-result-3 returns returns-2)
+    tie.close (tie.spec
+    (λ c. search needs) (λ c. search needs) sub-result cast-result-3 returns returns-2)
