@@ -11,13 +11,13 @@ use Rattle.model.specs.declared.Dot.{Dot}
 use Rattle.model.specs.declared.State.{State}
 use Rattle.model.specs.Layout.{World, world}
 use Rattle.model.specs.Calls.{yesNo, Make, Insert, Remove, Cleanup, Query}
-use Rattle.memory.specs.declared.make.Making.{Making}
-use Rattle.memory.specs.Fresh.{stateAfter, replyOf}
-use Rattle.calls.specs.declared.insert.InsertAnswer.{InsertAnswer}
-use Rattle.calls.specs.declared.remove.RemoveAnswer.{RemoveAnswer}
-use Rattle.calls.specs.declared.cleanup.CleanupAnswer.{CleanupAnswer}
-use Rattle.calls.specs.declared.query.QueryAnswer.{QueryAnswer}
-use Rattle.calls.specs.Answers.{insertReply, insertState, removeReply, removeState, cleanupReply, cleanupState, queryReply}
+use Rattle.model.specs.declared.answers.MakeAnswer.{MakeAnswer}
+use Rattle.model.specs.Answers.{makeState, makeReply}
+use Rattle.model.specs.declared.answers.InsertAnswer.{InsertAnswer}
+use Rattle.model.specs.declared.answers.RemoveAnswer.{RemoveAnswer}
+use Rattle.model.specs.declared.answers.CleanupAnswer.{CleanupAnswer}
+use Rattle.model.specs.declared.answers.QueryAnswer.{QueryAnswer}
+use Rattle.model.specs.Answers.{insertReply, insertState, removeReply, removeState, cleanupReply, cleanupState, queryReply}
 use Rattle.lines.specs.Text.{answer}
 use Rattle.lines.specs.Lines.{LineOf}
 use Rattle.lines.specs.declared.line.Call.{Call}
@@ -48,11 +48,11 @@ pub query-line : {w w′ : World} {q : AABB} {row row′ bytes : List ℕ} {r r�
 query-line {w} {w′} {q} {row} {row′} {bytes} {r} {r′} e h l =
     record { reply = queryReply r′; call = subst (λ (a : QueryAnswer). Query w q row w′ row′ (queryReply a)) e h; line = l }
 
-pub make-line : (w : World) (s : Settings) (before : State) (nodes dots : List ℕ) (rects : List ℤ) (marks : List ℕ) {bytes : List ℕ} {r r′ : Making} (t : Start) → r ≡ r′
-    → Make w s (world (stateAfter before r) nodes dots rects marks) (replyOf r) → GoesOn t (replyOf r′)
-    → bytes ≡ replyLine (λ _. answer 83 (D s ∷ [])) (replyOf r′) → MakeLine w s t (world (stateAfter before r′) nodes dots rects marks) bytes
+pub make-line : (w : World) (s : Settings) (before : State) (nodes dots : List ℕ) (rects : List ℤ) (marks : List ℕ) {bytes : List ℕ} {r r′ : MakeAnswer} (t : Start) → r ≡ r′
+    → Make w s (world (makeState before r) nodes dots rects marks) (makeReply r) → GoesOn t (makeReply r′)
+    → bytes ≡ replyLine (λ _. answer 83 (D s ∷ [])) (makeReply r′) → MakeLine w s t (world (makeState before r′) nodes dots rects marks) bytes
 make-line w s before nodes dots rects marks {bytes} {r} {r′} t e h g l =
-    record { reply = replyOf r′; call = subst (λ (a : Making). Make w s (world (stateAfter before a) nodes dots rects marks) (replyOf a)) e h; goes = g; line = l }
+    record { reply = makeReply r′; call = subst (λ (a : MakeAnswer). Make w s (world (makeState before a) nodes dots rects marks) (makeReply a)) e h; goes = g; line = l }
 
 pub call-is : {w w′ : World} {row row′ bytes : List ℕ} {c c′ : Call} → c ≡ c′ → CallLine w row c′ w′ row′ bytes → Called w row c w′ row′ bytes
 call-is {w} {w′} {row} {row′} {bytes} {c} {c′} e h = record { answer = subst (λ (a : Call). CallLine w row a w′ row′ bytes) (sym e) h }

@@ -5,14 +5,14 @@ ghost use lib.ListN.{length, take};
 ghost use Rattle.model.specs.declared.State.{State};
 ghost use Rattle.model.specs.Layout.{world};
 ghost use Rattle.ticket.specs.First.{MakeLine, Started, afterStart, endOf, refusalLine};
+use calls::make::make;
 use geometry::settings::Settings;
 use lines::answer::answer_one;
 use lines::line::Call;
 use lines::line::Line;
 use lines::line::read_line;
-use memory::make::Making;
-use memory::make::make;
 use model::State;
+use model::answers::MakeAnswer;
 
 // The state of the fresh tree, or the end; and where the answer's bytes end.
 pub enum Start {
@@ -33,8 +33,8 @@ pub fn answer_settings(
     ensures { λ r. ⌜ ((before : State) → MakeLine (world before (now (nodes .entry)) (now (dots .entry)) (now (rects .entry)) (now (marks .entry))) settings r (world (afterStart before r) (now (nodes .exit)) (now (dots .exit)) (now (rects .exit)) (now (marks .exit))) (take (endOf r) (now (out .exit)))) ⌝ }
 {
     match make(settings, nodes, dots, rects, marks) {
-        Making::Refused(number) => Start::Ended(answer_one(out, b'E', number)),
-        Making::Made(state) => Start::Going(state, answer_one(out, b'S', settings.deepest())),
+        MakeAnswer::Refused(number) => Start::Ended(answer_one(out, b'E', number)),
+        MakeAnswer::Made(state) => Start::Going(state, answer_one(out, b'S', settings.deepest())),
     }
 }
 

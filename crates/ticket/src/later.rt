@@ -4,13 +4,9 @@ ghost use Prim.Native.Nat.{_+_, _*_, _≤_};
 ghost use lib.ListN.{length, take};
 ghost use Rattle.model.specs.Layout.{world};
 ghost use Rattle.ticket.specs.Ticket.{InsertLine, RemoveLine, CleanupLine, QueryLine, Called, Answered, refusalLine};
-use calls::cleanup::CleanupAnswer;
 use calls::cleanup::cleanup;
-use calls::insert::InsertAnswer;
 use calls::insert::insert;
-use calls::query::QueryAnswer;
 use calls::query::query;
-use calls::remove::RemoveAnswer;
 use calls::remove::remove;
 use geometry::aabb::AABB;
 use lines::answer::answer_one;
@@ -21,6 +17,10 @@ use lines::line::Line;
 use lines::line::read_line;
 use model::Dot;
 use model::State;
+use model::answers::CleanupAnswer;
+use model::answers::InsertAnswer;
+use model::answers::QueryAnswer;
+use model::answers::RemoveAnswer;
 
 // The state after a line, and where the answer's bytes end.
 pub struct Step {
@@ -130,8 +130,8 @@ pub fn answer_listing(
             let next = answer_one(out, b'E', 8);
             Step { state, next }
         }
-        QueryAnswer::Listed(hits, opened) => {
-            let next = answer_query(out, opened, hits, row);
+        QueryAnswer::Listed(found) => {
+            let next = answer_query(out, found.opened, found.hits, row);
             Step { state, next }
         }
     }
@@ -153,8 +153,8 @@ pub fn answer_call(
     dots: &mut [u32],
     rects: &mut [i32],
     marks: &mut [u8],
-    row: &mut [u32],
     call: Call,
+    row: &mut [u32],
     out: &mut [u8],
 ) -> Step
     requires { ⌜ 24 + 11 * length (now row) ≤ length (now out) ⌝ }
@@ -177,8 +177,8 @@ pub fn answer_line(
     dots: &mut [u32],
     rects: &mut [i32],
     marks: &mut [u8],
-    row: &mut [u32],
     line: &[u8],
+    row: &mut [u32],
     out: &mut [u8],
 ) -> Step
     requires { ⌜ 24 + 11 * length (now row) ≤ length (now out) ⌝ }
@@ -186,7 +186,7 @@ pub fn answer_line(
     ensures { λ r. ⌜ Answered (world state (now (nodes .entry)) (now (dots .entry)) (now (rects .entry)) (now (marks .entry))) (now (row .entry)) (now (line .entry)) (world (r .state) (now (nodes .exit)) (now (dots .exit)) (now (rects .exit)) (now (marks .exit))) (now (row .exit)) (take (r .next) (now (out .exit))) ⌝ }
 {
     match read_line(line) {
-        Line::Call(call) => answer_call(state, nodes, dots, rects, marks, row, call, out),
+        Line::Call(call) => answer_call(state, nodes, dots, rects, marks, call, row, out),
         Line::Unreadable => answer_nine(state, out),
     }
 }

@@ -19,8 +19,8 @@ enum-told c = search needs
 answer-one-requires-2 : tie.Need-answer-one-requires-2
 answer-one-requires-2 c κs = search needs
 
-enum-known-hits : tie.Need-enum-known-hits
-enum-known-hits c = search needs
+enum-known-found : tie.Need-enum-known-found
+enum-known-found c = search needs
 
 answer-query-requires : tie.Need-answer-query-requires
 answer-query-requires c κs = search needs
@@ -59,7 +59,7 @@ same-length-9 : tie.Need-same-length-9
 same-length-9 c = search needs
 
 returns-3 : tie.Need-returns-3
-returns-3 c = (c .before .before .answer-query .ensures .within, query-line (c .before .before .before .before .before .before .hits .given .1) (c .before .before .before .before .before .before .before .before .before .before .before .before .query .ensures) (c .before .before .answer-query .ensures .holds))
+returns-3 c = (c .before .before .answer-query .ensures .within, query-line (c .before .before .before .before .before .before .found .given .1) (c .before .before .before .before .before .before .before .before .before .before .before .before .query .ensures) (c .before .before .answer-query .ensures .holds))
 
 pub answer-listing-spec : {M : Type 1} → statement M
 answer-listing-spec =
@@ -70,7 +70,7 @@ answer-listing-spec =
     answer-one-requires
     enum-told
     answer-one-requires-2
-    enum-known-hits
+    enum-known-found
     answer-query-requires
     same-length
     same-length-2
