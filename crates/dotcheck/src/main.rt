@@ -41,8 +41,8 @@ fn turn(
     dots: &mut [u32],
     rects: &mut [i32],
     marks: &mut [u8],
-    line: &[u8],
     row: &mut [u32],
+    line: &[u8],
     out: &mut [u8],
 ) -> Phase
     requires { ⌜ 24 + 11 * length (now row) ≤ length (now out) ⌝ }
@@ -76,9 +76,9 @@ fn take_byte(
     dots: &mut [u32],
     rects: &mut [i32],
     marks: &mut [u8],
+    row: &mut [u32],
     b: u8,
     line: &mut [u8],
-    row: &mut [u32],
     out: &mut [u8],
 ) -> Progress
     requires { ⌜ 24 + 11 * length (now row) ≤ length (now out) ⌝ }
@@ -88,7 +88,7 @@ fn take_byte(
     let phase = progress.phase;
     let kept = progress.kept;
     if b == b'\n' {
-        let after = turn(phase, nodes, dots, rects, marks, &line[..kept], row, out);
+        let after = turn(phase, nodes, dots, rects, marks, row, &line[..kept], out);
         return Progress {
             phase: after,
             kept: 0,
@@ -105,9 +105,9 @@ fn chunk(
     dots: &mut [u32],
     rects: &mut [i32],
     marks: &mut [u8],
+    row: &mut [u32],
     bytes: &[u8],
     line: &mut [u8],
-    row: &mut [u32],
     out: &mut [u8],
 ) -> Progress
     requires { ⌜ 24 + 11 * length (now row) ≤ length (now out) ⌝ }
@@ -117,7 +117,7 @@ fn chunk(
     let mut after = progress;
     let mut i = 0;
     while i < bytes.len() {
-        after = take_byte(after, nodes, dots, rects, marks, bytes[i], line, row, out);
+        after = take_byte(after, nodes, dots, rects, marks, row, bytes[i], line, out);
         i += 1;
     }
     after
@@ -138,10 +138,10 @@ fn run(
     dots: &mut [u32],
     rects: &mut [i32],
     marks: &mut [u8],
-    buffer: &mut [u8],
-    line: &mut [u8],
     row: &mut [u32],
+    line: &mut [u8],
     out: &mut [u8],
+    buffer: &mut [u8],
 )
     requires { ⌜ 24 + 11 * length (now row) ≤ length (now out) ⌝ }
 {
@@ -154,7 +154,7 @@ fn run(
         let got = libc::read(STDIN_FILENO, buffer);
         let n = io::count(got, buffer);
         if n == 0 {
-            finish(progress, nodes, dots, rects, marks, line, row, out);
+            finish(progress, nodes, dots, rects, marks, row, line, out);
             return;
         }
         progress = chunk(
@@ -163,9 +163,9 @@ fn run(
             dots,
             rects,
             marks,
+            row,
             &buffer[..n],
             line,
-            row,
             out,
         );
         turns -= 1;
@@ -179,8 +179,8 @@ fn finish(
     dots: &mut [u32],
     rects: &mut [i32],
     marks: &mut [u8],
-    line: &[u8],
     row: &mut [u32],
+    line: &[u8],
     out: &mut [u8],
 )
     requires { ⌜ 24 + 11 * length (now row) ≤ length (now out) ⌝ }
@@ -189,7 +189,7 @@ fn finish(
     let phase = progress.phase;
     let kept = progress.kept;
     if is_left(phase, kept) {
-        turn(phase, nodes, dots, rects, marks, &line[..kept], row, out);
+        turn(phase, nodes, dots, rects, marks, row, &line[..kept], out);
     }
 }
 
@@ -208,9 +208,9 @@ fn main() {
         &mut dots,
         &mut rects,
         &mut marks,
-        &mut buffer,
-        &mut line,
         &mut row,
+        &mut line,
         &mut out,
+        &mut buffer,
     );
 }

@@ -15,24 +15,36 @@ abbrev μ-loop : tie.MeasureT-loop
     length bytes - i
 
 loop-holds : tie.Need-loop-holds Inv-loop μ-loop
-loop-holds c = (refl, refl, refl, refl, refl, refl, refl, c .before .before .before .before .before .before .before .pre .1, c .before .before .before .before .before .before .before .pre .0)
+loop-holds c =
+    let at-start : tie.Start Inv-loop μ-loop = search in
+    (refl, refl, refl, refl, refl, refl, refl, at-start .pre .1, at-start .pre .0)
 
 shared-slice-read-take-byte : tie.Need-shared-slice-read-take-byte Inv-loop μ-loop
 shared-slice-read-take-byte c = omega arith
 
 take-byte-requires : tie.Need-take-byte-requires Inv-loop μ-loop
-take-byte-requires c κs = (c .before .before .before .before .before .before .before .before .before .loop .inv .8, c .before .before .before .before .before .before .before .before .before .loop .inv .7)
+take-byte-requires c κs =
+    let at-loop : tie.At-loop Inv-loop μ-loop = search in
+    (at-loop .loop .inv .8, at-loop .loop .inv .7)
 
 add-i : tie.Need-add-i Inv-loop μ-loop
-add-i c = omega (arith, c .before .before .before .before .before .before .before .before .before .before .before .before .before .before .before .before .before .before .before .before .before .before .before .before .before .before .before .before .before .before .before .good, c .before .before .before .before .before .before .before .before .before .before .before .before .before .before .before .before .before .before .before .before .before .before .loop-test .taken)
+add-i c =
+    let at-loop : tie.In-loop Inv-loop μ-loop = search in
+    let at-start : tie.Start Inv-loop μ-loop = search in
+    omega (arith, at-start .good, at-loop .loop-test .taken)
 
 loop-less : tie.Need-loop-less Inv-loop μ-loop
-loop-less c = omega (arith, c .before .before .before .before .before .before .before .before .before .before .before .before .before .before .before .before .before .before .before .before .before .before .loop-test .taken)
+loop-less c =
+    let at-loop : tie.In-loop Inv-loop μ-loop = search in
+    omega (arith, at-loop .loop-test .taken)
 
 loop-again : tie.Need-loop-again Inv-loop μ-loop
-loop-again c = let k = c .before .before .before .before .before .before .before .before .before .before .before .before .before .take-byte .kept in
-    let v = c .before .before .before .before .before .before .before .before .before .before .before .before .before .before .before .before .before .before .before .before .before .before .before .loop .inv in
-    (k .1 .0 ∙ v .0, k .1 .1 .0 ∙ v .1, k .1 .1 .1 .0 ∙ v .2, k .1 .1 .1 .1 .0 ∙ v .3, k .1 .1 .1 .1 .1 .0 ∙ v .4, k .1 .1 .1 .1 .1 .1 .1 .0 ∙ v .5, k .1 .1 .1 .1 .1 .1 .1 .1 .0 ∙ v .6, c .before .before .before .before .before .before .before .before .before .before .before .before .before .take-byte .ensures, omega (arith, v .8, k .1 .1 .1 .1 .1 .0, k .1 .1 .1 .1 .1 .1 .1 .1 .0))
+loop-again c =
+    let at-take-byte : tie.After-take-byte Inv-loop μ-loop = search in
+    let at-loop : tie.At-loop Inv-loop μ-loop = search in
+    let k = at-take-byte .take-byte .kept in
+    let v = at-loop .loop .inv in
+    (k .1 .0 ∙ v .0, k .1 .1 .0 ∙ v .1, k .1 .1 .1 .0 ∙ v .2, k .1 .1 .1 .1 .0 ∙ v .3, k .1 .1 .1 .1 .1 .0 ∙ v .4, k .1 .1 .1 .1 .1 .1 .1 .0 ∙ v .5, k .1 .1 .1 .1 .1 .1 .1 .1 .0 ∙ v .6, at-take-byte .take-byte .ensures, omega (arith, v .8, k .1 .1 .1 .1 .1 .0, k .1 .1 .1 .1 .1 .1 .1 .1 .0))
 
 same-length : tie.Need-same-length Inv-loop μ-loop
 same-length c = c .before .loop .inv .0
