@@ -1,4 +1,4 @@
--- The tree with its addresses (document 01, 'Settings and lent memory'): which group a branch has, at which place each dot stands.
+-- The tree with its addresses (§2.2, §2.5 to §2.7): which group a branch has, at which place each dot stands.
 --     Placed, Tree
 --     childNode    the nodes of a group
 --     sumDots, sumGroups   a weight, summed over the dots or the groups; a count is the sum of an indicator
@@ -20,7 +20,7 @@ pub data Tree : Type 0 where
   leaf : List Placed → Tree
   branch : ℕ → (ℕ → Tree) → Tree
 
--- 'group k is nodes 1 + 5k to 5 + 5k'
+-- §2.2: child i of a group
 abbrev pub childNode : ℕ → ℕ → ℕ
 childNode group i = 1 + 5 * group + i
 

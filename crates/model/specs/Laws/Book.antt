@@ -3,7 +3,7 @@
 --     idIs, dotIs  1 at the dots of an id; 1 at those of an id and a rectangle
 --     without-sum, but-tree        what a remove that says yes does to every weight
 --     count-live, dead-count, has-dot, has-hit, hit-has    from counts to `Live` and `Has`, and back
---     Told, book-told      the book is fed arguments, 'accepted' and 'yes' alone: nothing else of an event, so nothing of the tree, makes a difference to it
+--     Told, book-told      the book is told arguments, accepted and yes alone (§12.4): nothing else of an event makes a difference
 use mathlib.Core.Path.{_≡_, refl, ap, sym, _∙_}
 use mathlib.Core.Logic.{_⊎_, inl, inr, ⊎-elim}
 use mathlib.Core.List.{List, [], _∷_, map}

@@ -24,12 +24,12 @@ abbrev pub joinDown {ℓ} : {A : Type ℓ} → ℕ → (ℕ → List A) → List
 joinDown zero f = []
 joinDown (suc n) f = f n ++ joinDown n f
 
--- 'It walks the branches depth first, a branch before its child branches 4 to 1, each with all below it'; child 0 is a leaf
+-- §7.2: the branches in the order in which they are visited; child 0 is a leaf
 abbrev pub visits : Tree → List Visit
 visits (leaf chain) = []
 visits (branch g f) = record { group = g; empty = allEmpty f } ∷ joinDown 5 (λ i. visits (f i))
 
--- 'and turns a branch whose five children are empty at that moment': no child is turned before its parent is looked at
+-- §7.3: those of them that are turned
 abbrev pub turnedOf : List Visit → List ℕ
 turnedOf vs = map (λ v. v .group) (filter (λ v. v .empty) vs)
 
@@ -65,7 +65,7 @@ freed-onto (branch g f) free =
     (λ e. rw e (ap (λ vs. reverseAux (turnedOf vs) (g ∷ free)) (sym (none-below f e))))
     (λ e. rw e (down-freed 5 f (λ i x. freed-onto (f i) x) free))
 
--- 'A freed group or place goes to the head.'
+-- §2.10: the last group freed is the head
 pub freed-order : (t : Tree) (free : List ℕ) → freedBy t free ≡ reverse (turnedOf (visits t)) ++ free
 freed-order t free = freed-onto t free ∙ reverseAux-eq (turnedOf (visits t)) free
 

@@ -51,12 +51,12 @@ module _ (q : AABB) (x : Shape) (v : Valid x) where
       let found = hits q (root x) (x .tree) in
       omega (arith, sumOver-one (map (λ d. d .dot .id) found), sumOver-map (λ id. 1) (λ (d : Placed). d .dot .id) found, hits-le (λ d. 1))
 
--- 'References: the dots in all leaves'
+-- §9.3
 pub references-dots : (x : Shape) → references x ≡ length (dots (x .tree))
 unfolding references
 references-dots x = sym (sumDots-dots (λ d. 1) (x .tree)) ∙ sumOver-one (dots (x .tree))
 
--- 'All: a query with the root's rectangle.'
+-- §8.5
 pub all-query : (w : World) (row : List ℕ) (w′ : World) (row′ : List ℕ) (reply : Reply Found)
     → All w row w′ row′ reply ↔ Query w (rootRect (w .state .settings)) row w′ row′ reply
 unfolding Query All allRule

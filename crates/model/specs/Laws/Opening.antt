@@ -22,7 +22,7 @@ use Rattle.model.specs.Shapes.{Shape, Valid, root, opensFor}
 use Rattle.model.specs.Layout.{treeNodes, freeGroupNodes}
 use Rattle.model.specs.Laws.Entries.{nodeIs, nodes-once}
 
--- 'in a branch child 0 first': it is always opened
+-- §8.2: child 0 is always opened
 pub opens-child-0 : (q : AABB) (n : NodeData) → opens q n 0 ≡ true
 unfolding opens bothTests
 opens-child-0 q n = refl

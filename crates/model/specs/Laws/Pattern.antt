@@ -180,7 +180,7 @@ obeys-some fits rule w row tree? =
     (λ s. let e = exit w row (refused 2) in (e, by-settings fits rule w row e l s refl)))
     (λ l. let e = exit w row (refused 1) in (e, by-length fits rule w row e l refl))
 
--- 'a refused call leaves nodes, dots and answers untouched', and the state
+-- §11.7: a refused call keeps state, nodes, dots, rects and its row
 pub record Untouched {B A : Type 0} (w : World) (row : List B) (e : Exit B A) : Type 0 where
   pub state : e .world .state ≡ w .state
   pub nodes : e .world .nodes ≡ w .nodes
@@ -226,7 +226,7 @@ zero-marks w row (refuse k) = (length (w .marks), refl)
 zero-marks w row (overflow n) = (length (w .marks), refl)
 zero-marks w row (accept x words a) = (x .places + x .groups, refl)
 
--- 'Marks: N + G bytes, 0 everywhere after each call not refused 1 or 2.'
+-- §2.13: the marks after a call that is not refused 1 or 2
 pub marks-cleared : {B A : Type 0} (fits : Bool) (rule : Shape → Verdict B A) (w : World) (row : List B) (e : Exit B A)
     → ((x : Shape) × Holds w x) ⊎ ((x : Shape) → Holds w x → ⊥) → Obeys fits rule w row e → refusal (e .reply) ≢ 1 → refusal (e .reply) ≢ 2
     → (n : ℕ) × (e .world .marks ≡ replicate n 0)

@@ -66,7 +66,7 @@ length-join : {A : Type 0} (n : ℕ) (f : ℕ → List A) → length (joinBelow 
 length-join zero f = refl
 length-join (suc n) f = omega (arith, length-append (joinBelow n f) (f n), length-join n f)
 
--- 'a leaf is one answer and takes six words'
+-- §9.2: six words a leaf
 pub leaves-length : (n : NodeData) (t : Tree) → length (leavesOf n t) ≡ 6 * leafCount t
 leaves-length n (leaf chain) = refl
 leaves-length n (branch g f) =

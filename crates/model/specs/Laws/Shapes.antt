@@ -142,7 +142,7 @@ valid-height x v =
     let s = x .settings in
     valid-shallow s (in-positive s (v .settingsFit) .smallestCell) (D s) (rootData s) (x .tree) (levels-root s) (v .wellFormed)
 
--- 'child 0 is a leaf': it could not split
+-- §2.12: child 0 is a leaf, for it could not split
 pub child-0-leaf : (s : Settings) (n : NodeData) (t : Tree) → WellFormed s (childData n 0) t → (chain : List Placed) × (t ≡ leaf chain)
 unfolding childData mayDivide
 child-0-leaf s n (leaf chain) v = (chain, refl)

@@ -1,7 +1,7 @@
 -- The splits of an insert, and refusal 7.
 --     needed-count         the splits needed, by the recursion of Laws.Insert
 --     splits-enough        any D groups are enough for them
---     needed-le            'the splits needed' are at most D
+--     needed-le            the splits needed are at most D
 --     made-needed          an insert that finds that many groups free makes just them, and takes as many groups
 --     made-fewer           one that doesn't makes fewer, so that refusal 7 is told exactly by the insert itself
 use mathlib.Core.Path.{_≡_, refl, sym, _∙_}
@@ -38,7 +38,7 @@ module _ (dot : Dot) (x : Shape) where
   unfolding splitsNeeded
   needed-count = enough (upTo (D (x .settings))) (omega (arith, length-upTo (D (x .settings))))
 
-  -- 'the splits that the same insert makes with groups enough'
+  -- §11.4: with groups enough
   pub splits-enough : (many : List ℕ) → D (x .settings) ≤ length many → grownBy dot x many .splits ≡ splitsNeeded dot x
   splits-enough many h = enough many h ∙ sym needed-count
 
