@@ -16,13 +16,15 @@ use lib.Seq.{take-append-seam}
 use lib.Dec.{ltb}
 use Rattle.geometry.specs.declared.aabb.AABB.{AABB}
 use Rattle.geometry.specs.declared.settings.Settings.{Settings}
-use Rattle.model.specs.Sums.{indicator, indicator-same, indicator-other, indicator-le, sumOver, sumOver-one, byDec}
+use Rattle.model.specs.Sums.{indicator, sumOver}
+use Rattle.model.specs.Laws.Sums.{indicator-same, indicator-other, indicator-le, sumOver-one, byDec, sumOver-map}
 use Rattle.model.specs.Lists.{count}
 use Rattle.arithmetic.specs.Tests.{byBool, true-false}
 use Rattle.model.specs.declared.Dot.{Dot}
 use Rattle.model.specs.Dots.{isHit}
 use Rattle.geometry.specs.Settings.{D}
-use Rattle.model.specs.Trees.{Placed, sumDots, dots, sumDots-dots, size}
+use Rattle.model.specs.Trees.{Placed, sumDots, size}
+use Rattle.model.specs.Laws.Trees.{dots, sumDots-dots}
 use Rattle.model.specs.Query.{hits}
 use Rattle.model.specs.Cleanup.{isZero, turned}
 use Rattle.model.specs.Remove.{removeSays, removeAt}
@@ -37,9 +39,10 @@ use Rattle.model.specs.Laws.Cleanup.{clean-sum, no-clean, clean-no, Tidy
 use Rattle.model.specs.Laws.Insert.{insert-sum}
 use borrow.Author.Tests.{eq-eqb}
 use Rattle.model.specs.Laws.Remove.{found-gone, found-live}
-use Rattle.model.specs.Laws.Shapes.{sumOver-map, valid-height, shape-routed}
+use Rattle.model.specs.Laws.Shapes.{valid-height, shape-routed}
 use Rattle.model.specs.Laws.Runs.{made-holds}
-use Rattle.model.specs.Laws.Book.{onDot, idIs, dotIs, but, without-sum, without-le, but-tree, sum-filter, dead-count, has-dot, has-hit, hit-has, meeting-le}
+use Rattle.model.specs.Laws.Book.{onDot, idIs, dotIs, but, without-sum, without-le, but-tree, dead-count, has-dot, has-hit, hit-has, meeting-le}
+use Rattle.model.specs.Laws.Lists.{sum-filter}
 use Rattle.model.specs.Laws.Calls.{insert-cases, insert-refused, insert-accepted, remove-no, remove-yes, cleanup-done, query-short, query-done, query-holds}
 
 -- ---- the invariant of a run
@@ -170,11 +173,6 @@ no-cleans : (x : Shape) → Clean (x .tree) → cleans x ≡ false
 unfolding cleans
 no-cleans x c = ap (λ (n : ℕ). not (isZero n)) (clean-no (x .tree) c)
 
-says : Reply Bool → Bool
-says (refused k) = false
-says (tooMany n) = false
-says (answered b) = b
-
 opensOf : Reply Found → ℕ
 opensOf (refused k) = 0
 opensOf (tooMany n) = 0
@@ -246,7 +244,7 @@ few s n q x v k t =
 
 inv-opens : (s : Settings) (w : World) (b : List Dot) → Inv s w b → (es fs : List Event) (v w′ : World) → Run w (es ++ cleanup (answered false) ∷ fs) v → Quiet es → Quiet fs
     → (q : AABB) (row row′ : List ℕ) (a : Found) → Query v q row w′ row′ (answered a) → a .opened ≤ 1 + 5 * D s * length b
-unfolding says opensOf
+unfolding opensOf
 inv-opens s w b I es fs v w′ run qe qf q row row′ a call =
     let n = length b in
     let start : Kept s n (I .x) = record { settings = I .settings; sized = I .same (λ d. 1) ∙ sumOver-one b } in
@@ -255,7 +253,7 @@ inv-opens s w b I es fs v w′ run qe qf q row row′ a call =
     let before = quiet-run Q (λ k x p. kept-cleaned s n x p) (λ x p. kept-cleaned s n x p) 0 w es (r .0) (I .x) (r .1) qe (I .holds) start (omega arith) in
     let y = before .0 in
     let done = cleanup-done (r .0) (r .2 .0) (answered false) (r .2 .1) y (before .1) in
-    let clean = clean-tidy (y .tree) (cleans-no y (sym (ap says (done .1)))) in
+    let clean = clean-tidy (y .tree) (cleans-no y (sym (ap saidYes (done .1)))) in
     let R : ℕ → Shape → Type 0 = λ k x. Kept s n x × Tidy 0 (x .tree) in
     let keep : (x : Shape) → Kept s n x × Tidy 0 (x .tree) → Kept s n (cleaned x) × Tidy 0 (cleaned x .tree) =
     λ x p. (kept-cleaned s n x (p .0), tidy-stay x (p .1)) in

@@ -12,14 +12,16 @@ use native.Mathlib.Omega.{arith}
 use lib.Dec.{eqb}
 use lib.ListN.{length, getD, List·getD-append}
 use lib.Seq.{getD-append-add}
-use Rattle.model.specs.Sums.{indicator, indicator-same, indicator-other, sumOver, sumOver-append, sumBelow, sumBelow-ext, sumBelow-add, sumBelow-zero, sumBelow-only, byDec}
-use Rattle.model.specs.Lists.{joinBelow, length-joinBelow, sumOver-joinBelow, All, count}
+use Rattle.model.specs.Sums.{indicator, sumOver, sumBelow}
+use Rattle.model.specs.Laws.Sums.{indicator-same, indicator-other, sumOver-append, sumBelow-ext, sumBelow-add, sumBelow-zero, sumBelow-only, byDec, sumOver-map}
+use Rattle.model.specs.Lists.{joinBelow, All, count}
+use Rattle.model.specs.Laws.Lists.{length-joinBelow, sumOver-joinBelow}
 use Rattle.arithmetic.specs.Tests.{byBool, true-false}
 use Rattle.model.specs.Trees.{Placed, Tree, leaf, branch, childNode, groupCount, placeCount, atPlace}
 use Rattle.model.specs.Shapes.{Shape, Valid, below}
 use Rattle.model.specs.Layout.{none, firstNode, NodeEntry, PlaceEntry, treeNodes, freeGroupNodes, chainPlaces, treePlaces, blank, nodeEntries, placeEntries}
 use borrow.Author.Tests.{eqb-true, eq-eqb}
-use Rattle.model.specs.Laws.Shapes.{below-yes, below-no, below-le, sumOver-map}
+use Rattle.model.specs.Laws.Shapes.{below-yes, below-no, below-le}
 
 -- ---- a word of a row that is joined from short rows of m words each
 

@@ -5,12 +5,13 @@
 use mathlib.Core.Path.{_≡_, refl, ap, ap₂, sym, _∙_}
 use mathlib.Core.List.{List, [], _∷_, _++_, map, reverse, reverseAux, reverseAux-append, reverseAux-eq}
 use mathlib.Core.Bool.{Bool, true}
-use Prim.Native.Nat.{ℕ, zero, suc, _+_, _<_}
+use Prim.Native.Nat.{ℕ, zero, suc, _<_}
 use native.Mathlib.Omega.{arith}
 use lib.ListN.{length, length-append}
 use Rattle.arithmetic.specs.Tests.{byBool}
 use Rattle.model.specs.Sums.{sumBelow}
-use Rattle.model.specs.Lists.{filter, filter-append}
+use Rattle.model.specs.Lists.{filter}
+use Rattle.model.specs.Laws.Lists.{filter-append, map-append}
 use Rattle.model.specs.Trees.{Tree, leaf, branch}
 use Rattle.model.specs.Cleanup.{busy, allEmpty, downFrom, freedBy, turned}
 use Rattle.model.specs.Laws.Cleanup.{zero-is, children-empty}
@@ -32,10 +33,6 @@ visits (branch g f) = record { group = g; empty = allEmpty f } ∷ joinDown 5 (�
 -- §7.3: those of them that are turned
 abbrev pub turnedOf : List Visit → List ℕ
 turnedOf vs = map (λ v. v .group) (filter (λ v. v .empty) vs)
-
-map-append : {A B : Type 0} (f : A → B) (xs ys : List A) → map f (xs ++ ys) ≡ map f xs ++ map f ys
-map-append f [] ys = refl
-map-append f (x ∷ xs) ys = ap (λ r. f x ∷ r) (map-append f xs ys)
 
 turned-append : (vs ws : List Visit) → turnedOf (vs ++ ws) ≡ turnedOf vs ++ turnedOf ws
 turned-append vs ws =
@@ -69,7 +66,8 @@ freed-onto (branch g f) free =
 pub freed-order : (t : Tree) (free : List ℕ) → freedBy t free ≡ reverse (turnedOf (visits t)) ++ free
 freed-order t free = freed-onto t free ∙ reverseAux-eq (turnedOf (visits t)) free
 
-down-count : (n : ℕ) (f : ℕ → Tree) → ((i : ℕ) → turned (f i) ≡ length (turnedOf (visits (f i)))) → sumBelow n (λ i. turned (f i)) ≡ length (turnedOf (joinDown n (λ i. visits (f i))))
+down-count : (n : ℕ) (f : ℕ → Tree) → ((i : ℕ) → turned (f i) ≡ length (turnedOf (visits (f i))))
+    → sumBelow n (λ i. turned (f i)) ≡ length (turnedOf (joinDown n (λ i. visits (f i))))
 down-count zero f ih = refl
 down-count (suc n) f ih =
     let rest = joinDown n (λ i. visits (f i)) in

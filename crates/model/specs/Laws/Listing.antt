@@ -5,30 +5,26 @@
 --     all-query    all, today, is a query with the root's rectangle
 use mathlib.Core.Path.{_≡_, ap, sym, _∙_}
 use mathlib.Core.Logic.{_↔_}
-use mathlib.Core.List.{List, [], _∷_, map}
-use mathlib.Core.Bool.{Bool}
+use mathlib.Core.List.{List, map}
 use Prim.Native.Nat.{ℕ, _≤_}
 use native.Mathlib.Omega.{arith}
 use lib.ListN.{length}
-use Rattle.arithmetic.specs.Tests.{byBool}
 use Rattle.geometry.specs.declared.aabb.AABB.{AABB}
 use Rattle.geometry.specs.Settings.{rootRect}
-use Rattle.model.specs.Sums.{sumOver, sumOver-one}
-use Rattle.model.specs.Lists.{filter}
+use Rattle.model.specs.Sums.{sumOver}
+use Rattle.model.specs.Laws.Sums.{sumOver-one, sumOver-map}
+use Rattle.model.specs.Laws.Lists.{filter-le}
 use Rattle.model.specs.Dots.{isHit}
-use Rattle.model.specs.Trees.{Placed, atPlace, size, sumDots, dots, sumDots-dots}
+use Rattle.model.specs.Trees.{Placed, atPlace, size, sumDots}
+use Rattle.model.specs.Laws.Trees.{dots, sumDots-dots}
 use Rattle.model.specs.Query.{hits}
 use Rattle.model.specs.Shapes.{Shape, Valid, root, listed, references}
 use Rattle.model.specs.Layout.{World, Holds}
 use Rattle.model.specs.declared.answers.Found.{Found}
 use Rattle.model.specs.Calls.{Reply, carriedOut, queryRule, allRule, Query, All}
 use Rattle.model.specs.Laws.Query.{hits-filter}
-use Rattle.model.specs.Laws.Shapes.{below-le, sumOver-map, shape-routed}
+use Rattle.model.specs.Laws.Shapes.{below-le, shape-routed}
 use Rattle.model.specs.Laws.Layout.{holds-settings}
-
-filter-le : {A : Type 0} (h : A → ℕ) (p : A → Bool) (xs : List A) → sumOver h (filter p xs) ≤ sumOver h xs
-filter-le h p [] = omega arith
-filter-le h p (x ∷ xs) = byBool (p x) (λ e. rw e (omega (arith, filter-le h p xs))) (λ e. rw e (omega (arith, filter-le h p xs)))
 
 module _ (q : AABB) (x : Shape) (v : Valid x) where
   -- no weight sums to more over the listed dots than over all

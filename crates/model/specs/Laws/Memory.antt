@@ -14,8 +14,10 @@ use lib.Seq.{ext-getD}
 use Rattle.geometry.specs.declared.aabb.AABB.{AABB}
 use Rattle.model.specs.declared.Dot.{Dot}
 use Rattle.model.specs.declared.State.{State}
-use Rattle.model.specs.Sums.{sumOver, byDec}
-use Rattle.model.specs.Lists.{joinBelow, length-joinBelow, All, all-append, all-joinBelow, all-map, count}
+use Rattle.model.specs.Sums.{sumOver}
+use Rattle.model.specs.Laws.Sums.{byDec}
+use Rattle.model.specs.Lists.{joinBelow, All, count}
+use Rattle.model.specs.Laws.Lists.{length-joinBelow, all-append, all-joinBelow, all-map}
 use Rattle.model.specs.Trees.{Placed, Tree, leaf, branch, childNode}
 use Rattle.model.specs.Shapes.{Shape, Valid}
 use Rattle.model.specs.Layout.{World, none, firstNode, firstDot, NodeEntry, PlaceEntry, treeNodes, freeGroupNodes, chainPlaces, treePlaces, blank, nodeEntries, placeEntries, nodeWords, placeWords, dotWords, rectWords, placeRect, stateOf, layout, cleared, Holds}

@@ -1,22 +1,22 @@
--- A memory has one shape at most; so the pattern of the calls fixes what each call leaves, and asks nothing that contradicts itself.
+-- A memory has one shape at most; so the pattern of the calls fixes what each call leaves.
 --     one-chain, one-tree, one-free    what is read from a link, a node, a head is one chain, one tree, one list
 --     holds-one    two shapes of one world are equal
 --     obeys-fixed  two exits of one call are equal
 --     by-length, by-settings, by-no-tree, by-tree  the four ways through a call
---     obeys-some   every call has an exit
 --     marks-cleared        the marks are 0 after each call not refused 1 or 2
---     refused-untouched    a refused call leaves state, nodes, dots and answers untouched (the mission's first demand)
+--     refused-untouched    a refused call leaves state, nodes, dots and answers untouched (§11.7)
 use mathlib.Core.Path.{_≡_, refl, ap, ap₂, sym, _∙_, subst, fun-ext}
 use mathlib.Core.Logic.{_≢_, _⊎_, ⊎-elim}
 use mathlib.Core.List.{List, [], _∷_, map}
 use mathlib.Core.Bool.{Bool, true, false, _&&_}
-use Prim.Native.Nat.{ℕ, _+_, suc, _≤_, _<_}
+use Prim.Native.Nat.{ℕ, _+_, _≤_, _<_}
 use native.Mathlib.Nat.{suc-inj}
 use native.Mathlib.Decide.{decLt}
 use native.Mathlib.Omega.{arith}
 use lib.ListN.{length, replicate}
-use Rattle.model.specs.Sums.{indicator-same, sumOver-one, sumBelow-term, byDec}
+use Rattle.model.specs.Laws.Sums.{indicator-same, sumOver-one, sumBelow-term, byDec}
 use Rattle.model.specs.Lists.{count}
+use Rattle.model.specs.Laws.Lists.{length-map}
 use Rattle.arithmetic.specs.Tests.{byBool, true-false}
 use Rattle.model.specs.Trees.{Placed, Tree, leaf, branch, childNode, size}
 use Rattle.model.specs.Shapes.{Shape, Valid, WellFormed}
@@ -82,8 +82,7 @@ places-back [] = refl
 places-back (p ∷ ps) = ap (λ (xs : List ℕ). p ∷ xs) (places-back ps)
 
 pub length-blank : (ps : List ℕ) → length (map blank ps) ≡ length ps
-length-blank [] = refl
-length-blank (p ∷ ps) = ap suc (length-blank ps)
+length-blank ps = length-map blank ps
 
 pub size-small : (x : Shape) → Valid x → size (x .tree) < branchMark
 unfolding branchMark
@@ -164,21 +163,6 @@ module _ {B A : Type 0} (fits : Bool) (rule : Shape → Verdict B A) (w : World)
         noTree = λ _ _ n. absurd (n x h);
         tree = λ _ _ y k. p ∙ ap (λ (z : Shape). carriedOut w row (rule z)) (holds-one w x y h k);
       }
-
--- Every call has an exit, whatever the memory holds: the pattern's clauses exclude one another, and agree on the shape that is read.
-pub obeys-some : {B A : Type 0} (fits : Bool) (rule : Shape → Verdict B A) (w : World) (row : List B)
-    → ((x : Shape) × Holds w x) ⊎ ((x : Shape) → Holds w x → ⊥) → (e : Exit B A) × Obeys fits rule w row e
-obeys-some fits rule w row tree? =
-    byBool (lengthsRight w && fits)
-    (λ l.
-    byBool (inRange (w .state .settings))
-    (λ s.
-    ⊎-elim
-    (λ t. let e = carriedOut w row (rule (t .0)) in (e, by-tree fits rule w row e l s (t .0) (t .1) refl))
-    (λ n. let e = exit (cleared w) row (refused 3) in (e, by-no-tree fits rule w row e l s n refl))
-    tree?)
-    (λ s. let e = exit w row (refused 2) in (e, by-settings fits rule w row e l s refl)))
-    (λ l. let e = exit w row (refused 1) in (e, by-length fits rule w row e l refl))
 
 -- §11.7: a refused call keeps state, nodes, dots, rects and its row
 pub record Untouched {B A : Type 0} (w : World) (row : List B) (e : Exit B A) : Type 0 where

@@ -1,21 +1,22 @@
 -- Laws of the remove.
 --     Gone, found-gone     a yes takes out one dot of that id, whose place is the one freed
 --     found-live   a dot that stands where its rectangle routes to is found by it
---     remove-all, remove-shallow, remove-routed, remove-groups, remove-valid       what it keeps
+--     remove-all, remove-groups, remove-valid      what it keeps
 use mathlib.Core.Path.{_≡_, refl, ap, sym, _∙_, subst}
 use mathlib.Core.List.{List, [], _∷_}
 use mathlib.Core.Bool.{true, cond, _&&_}
-use Prim.Native.Nat.{ℕ, zero, suc, _+_, _-_, _≤_}
+use Prim.Native.Nat.{ℕ, _+_, _≤_}
 use native.Mathlib.Decide.{decLe}
 use native.Mathlib.Omega.{arith}
 use lib.ListN.{length}
 use Rattle.geometry.specs.declared.aabb.AABB.{AABB}
 use Rattle.geometry.specs.declared.settings.Settings.{Settings}
 use Rattle.geometry.specs.declared.node_data.NodeData.{NodeData}
-use Rattle.model.specs.Sums.{indicator, indicator-other, changed-other, changed-all, sumOver, sumBelow-some, sumBelow-changed, byDec}
+use Rattle.model.specs.Sums.{indicator, sumOver}
+use Rattle.model.specs.Laws.Sums.{indicator-other, sumOver-le, changed-other, changed-all, sumBelow-some, sumBelow-changed, byDec}
 use Rattle.model.specs.Lists.{All}
 use Rattle.arithmetic.specs.Tests.{byBool, true-false}
-use Rattle.model.specs.Trees.{Placed, Tree, leaf, branch, sumDots, sumGroups, AllDots, Shallow}
+use Rattle.model.specs.Trees.{Placed, Tree, leaf, branch, sumDots, sumGroups, AllDots}
 use Rattle.model.specs.Insert.{routeDot}
 use Rattle.model.specs.Dots.{acceptableDot, matches}
 use Rattle.model.specs.Laws.Dots.{match-id, id-match}
@@ -73,7 +74,7 @@ all-out P k (d ∷ ds) a = byBool (matches k (d .dot)) (λ t. rw t (a .1)) (λ t
 all-some : (P : Placed → Type 0) (h : Placed → ℕ) (ds : List Placed) → All P ds → 1 ≤ sumOver h ds → (d : Placed) × P d × (1 ≤ h d)
 all-some P h [] a b = absurd (omega arith)
 all-some P h (d ∷ ds) a b =
-    byDec (native.Mathlib.Decide.decLe 1 (h d)) (λ c. (d, a .0, c)) (λ c. all-some P h ds (a .1) (omega arith))
+    byDec (decLe 1 (h d)) (λ c. (d, a .0, c)) (λ c. all-some P h ds (a .1) (omega arith))
 
 -- a dot that h counts is there, with what holds of all
 pub allDots-some : (P : Placed → Type 0) (h : Placed → ℕ) (t : Tree) → AllDots P t → 1 ≤ sumDots h t → (d : Placed) × P d × (1 ≤ h d)
@@ -90,10 +91,6 @@ pair-le k r d = byBool (sameRect r (d .dot .rect)) (λ e. rw e (omega arith)) (�
 
 pair-rect : (k : ℕ) (r : AABB) (d : Placed) → 1 ≤ pair k r d → r ≡ d .dot .rect
 pair-rect k r d h = byBool (sameRect r (d .dot .rect)) (λ e. sameRect-true r (d .dot .rect) e) (λ e. absurd (omega (arith, rw e at h)))
-
-sumOver-le : (h k : Placed → ℕ) (ds : List Placed) → ((d : Placed) → h d ≤ k d) → sumOver h ds ≤ sumOver k ds
-sumOver-le h k [] e = omega arith
-sumOver-le h k (d ∷ ds) e = omega (arith, e d, sumOver-le h k ds e)
 
 module _ (k : ℕ) (r : AABB) where
   pub found-gone : (c : NodeData) (t : Tree) → removeSays k r c t ≡ true → Gone k (removePlace k r c t) (λ h. sumDots h t) (λ h. sumDots h (removeAt k r c t))
@@ -120,25 +117,6 @@ module _ (k : ℕ) (r : AABB) where
       let i = route c r in
       λ j b. changed-all (λ (j : ℕ) (x : Tree). AllDots P x) f i (removeAt k r (childData c i) (f i)) j (λ e. remove-all P (childData c i) (f i) (a i (route-child c r))) (λ ne. a j b)
 
-  pub remove-shallow : (n : ℕ) (c : NodeData) (t : Tree) → Shallow n t → Shallow n (removeAt k r c t)
-  remove-shallow n c (leaf ds) s = tt
-  remove-shallow zero c (branch g f) s = absurd s
-  remove-shallow (suc n) c (branch g f) s =
-      let i = route c r in
-      λ j b. changed-all (λ (j : ℕ) (x : Tree). Shallow n x) f i (removeAt k r (childData c i) (f i)) j (λ e. remove-shallow n (childData c i) (f i) (s i (route-child c r))) (λ ne. s j b)
-
-  pub remove-routed : (c : NodeData) (t : Tree) → Routed c t → Routed c (removeAt k r c t)
-  remove-routed c (leaf ds) ro = tt
-  remove-routed c (branch g f) ro =
-      let i = route c r in
-      let ib = route-child c r in
-      let u = removeAt k r (childData c i) (f i) in
-      λ j b. changed-all (λ (j : ℕ) (x : Tree). AllDots (λ d. routeDot c d ≡ j) x × Routed (childData c j) x) f i u j
-      (λ e. subst (λ (y : ℕ). AllDots (λ d. routeDot c d ≡ y) u × Routed (childData c y) u) (sym e)
-      (remove-all (λ d. routeDot c d ≡ i) (childData c i) (f i) (ro i ib .0), remove-routed (childData c i) (f i) (ro i ib .1)))
-      (λ ne. ro j b)
-
-module _ (k : ℕ) (r : AABB) where
   pub remove-groups : (h : ℕ → ℕ) (c : NodeData) (t : Tree) → sumGroups h (removeAt k r c t) ≡ sumGroups h t
   remove-groups h c (leaf ds) = refl
   remove-groups h c (branch g f) =
