@@ -141,7 +141,8 @@ pub record Promise (s : Settings) (w : World) (b : List Dot) : Type 0 where
   -- §12.9
   pub keepsOthers : (id : ℕ) (r : AABB) (w′ : World) (reply : Reply Bool) → Remove w id r w′ reply → ¬ Live id b → reply ≡ answered false
   -- §12.10: a cleanup that D cleanups came before says no
-  pub cleanupsEnd : (es : List Event) (v w′ : World) (reply : Reply Bool) → Run w es v → Quiet es → D s ≤ cleanups es → Cleanup v w′ reply → reply ≡ answered false
+  pub cleanupsEnd : (es : List Event) (v w′ : World) (reply : Reply Bool) → Run w es v → Quiet es → D s ≤ cleanups es → Cleanup v w′ reply
+      → reply ≡ answered false
   -- §12.11: once a cleanup has said no
   pub opensFew : (es fs : List Event) (v w′ : World) → Run w (es ++ cleanup (answered false) ∷ fs) v → Quiet es → Quiet fs
       → (q : AABB) (row row′ : List ℕ) (a : Found) → Query v q row w′ row′ (answered a) → a .opened ≤ 1 + 5 * D s * length b

@@ -19,7 +19,8 @@ use Rattle.model.specs.declared.answers.Found.{Found}
 use Rattle.geometry.specs.Rectangles.{inverted, farOut}
 use Rattle.geometry.specs.Settings.{rootOf, inRange, contains, rootRect}
 use Rattle.model.specs.Trees.{size}
-use Rattle.model.specs.Shapes.{Shape, fresh, inserted, splitsMade, splitsNeeded, removed, foundBy, cleaned, cleans, listed, opensFor, leaves, leafNumber, references}
+use Rattle.model.specs.Shapes.{Shape, fresh, inserted, splitsMade, splitsNeeded, removed, foundBy}
+use Rattle.model.specs.Shapes.{cleaned, cleans, listed, opensFor, leaves, leafNumber, references}
 use Rattle.model.specs.Layout.{World, groupsOf, placesOf, lengthsRight, layout, cleared, Holds}
 
 -- §11.8: a refusal has its number; `tooMany` is refusal 8 with how many answers there are (§11.5)

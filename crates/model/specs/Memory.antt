@@ -37,7 +37,12 @@ nextAt dots p = getD dots (2 * p + 1) 0
 
 unfoldable pub rectAt : List ℤ → ℕ → AABB
 rectAt rects p =
-    record { x1 = getD rects (4 * p + 0) (pos 0); y1 = getD rects (4 * p + 1) (pos 0); x2 = getD rects (4 * p + 2) (pos 0); y2 = getD rects (4 * p + 3) (pos 0) }
+    record {
+      x1 = getD rects (4 * p + 0) (pos 0);
+      y1 = getD rects (4 * p + 1) (pos 0);
+      x2 = getD rects (4 * p + 2) (pos 0);
+      y2 = getD rects (4 * p + 3) (pos 0);
+    }
 
 abbrev pub dotAt : List ℕ → List ℤ → ℕ → Dot
 dotAt dots rects p = record { id = idAt dots p; rect = rectAt rects p }

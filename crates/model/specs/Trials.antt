@@ -17,10 +17,12 @@ use Rattle.model.specs.Dots.{isHit, matches}
 use Rattle.geometry.specs.Rectangles.{flat, intersects, middle, within, inverted, near, farOut}
 use Rattle.geometry.specs.Settings.{rootOf, W, bitsWithin, bitLength, halvings, D, contains, rootRect}
 use Rattle.geometry.specs.Cells.{routeCell, mayDivide, rootCell, rootData, childCentre, quarterCell, childCell, childData, quadrant, route, bothTests, opens}
-use Rattle.model.specs.Shapes.{Shape, fresh, inserted, splitsMade, splitsNeeded, removed, foundBy, cleaned, cleans, listed, opensFor, leaves as leafRow, leafNumber, references as dotCount}
+use Rattle.model.specs.Shapes.{Shape, fresh, inserted, splitsMade, splitsNeeded, removed, foundBy, cleaned, cleans}
+use Rattle.model.specs.Shapes.{listed, opensFor, leaves as leafRow, leafNumber, references as dotCount}
 use Rattle.model.specs.Layout.{none, branchMark, layout}
 use Rattle.model.specs.declared.answers.Found.{Found}
-use Rattle.model.specs.Calls.{Verdict, refuse, overflow, accept, recorded, refusedWord, yesNo, insertRule, removeRule, cleanupRule, queryRule, allRule, leavesRule, referencesRule}
+use Rattle.model.specs.Calls.{Verdict, refuse, overflow, accept, recorded, refusedWord, yesNo, insertRule}
+use Rattle.model.specs.Calls.{removeRule, cleanupRule, queryRule, allRule, leavesRule, referencesRule}
 use Rattle.arithmetic.specs.Ints.{maxZ, minZ}
 
 -- §14.1: the root and the limits, with a leaf limit
@@ -166,8 +168,8 @@ table =
     ∷ calls 2 8 (three (remove 1 (rect 9 1 10 2) 0 ∷ []))
     ∷ []
 
--- others: the lines of §13.7, `S,2`, `E,5`, `Q,3,2,3,1`, `D,3,1`, `C,0`; the mistakes of §14.2 that `table` has not; the order of freed groups; and every
--- word after the three inserts of §13.7, with G = 1
+-- others: the lines of §13.7; the mistakes of §14.2 that `table` has not; the order of freed groups; and every word after the three inserts of §13.7,
+-- with G = 1
 abbrev pub further : List Trial
 further =
     deepest 2
@@ -197,9 +199,15 @@ further =
     ∷ []
 
 pub all-pass : passAll table ≡ true
-unfolding flat intersects middle within inverted near farOut W bitsWithin bitLength halvings D contains rootRect rootCell rootData childCentre quarterCell childCell childData quadrant routeCell bothTests opens mayDivide fresh inserted splitsMade splitsNeeded removed foundBy cleaned cleans listed opensFor insertRule removeRule cleanupRule queryRule allRule isHit matches indicator changed maxZ minZ
+unfolding flat intersects middle within inverted near farOut W bitsWithin bitLength halvings D contains rootRect
+    rootCell rootData childCentre quarterCell childCell childData quadrant routeCell bothTests opens mayDivide
+    fresh inserted splitsMade splitsNeeded removed foundBy cleaned cleans listed opensFor
+    insertRule removeRule cleanupRule queryRule allRule isHit matches indicator changed maxZ minZ
 all-pass = refl
 
 pub further-pass : passAll further ≡ true
-unfolding flat intersects middle within inverted near farOut W bitsWithin bitLength halvings D contains rootRect rootCell rootData childCentre quarterCell childCell childData quadrant routeCell bothTests opens mayDivide fresh inserted splitsMade splitsNeeded removed foundBy cleaned cleans listed opensFor insertRule removeRule cleanupRule queryRule allRule leavesRule referencesRule leafRow leafNumber dotCount isHit matches indicator changed maxZ minZ layout none branchMark
+unfolding flat intersects middle within inverted near farOut W bitsWithin bitLength halvings D contains rootRect
+    rootCell rootData childCentre quarterCell childCell childData quadrant routeCell bothTests opens mayDivide
+    fresh inserted splitsMade splitsNeeded removed foundBy cleaned cleans listed opensFor leafRow leafNumber dotCount
+    insertRule removeRule cleanupRule queryRule allRule leavesRule referencesRule isHit matches indicator changed maxZ minZ layout none branchMark
 further-pass = refl

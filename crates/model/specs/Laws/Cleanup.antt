@@ -120,7 +120,8 @@ tidy-zero (branch g f) d =
 
 down-sum : (h : ℕ → ℕ) (n : ℕ) (f : ℕ → Tree) (free : List ℕ)
     → ((i : ℕ) (x : List ℕ) → sumGroups h (cleanTree (f i)) + sumOver h (freedBy (f i) x) ≡ sumGroups h (f i) + sumOver h x)
-    → sumBelow n (λ i. sumGroups h (cleanTree (f i))) + sumOver h (downFrom n (λ i x. freedBy (f i) x) free) ≡ sumBelow n (λ i. sumGroups h (f i)) + sumOver h free
+    → sumBelow n (λ i. sumGroups h (cleanTree (f i))) + sumOver h (downFrom n (λ i x. freedBy (f i) x) free)
+    ≡ sumBelow n (λ i. sumGroups h (f i)) + sumOver h free
 down-sum h zero f free ih = omega arith
 down-sum h (suc n) f free ih = omega (arith, down-sum h n f (freedBy (f n) free) ih, ih n free)
 
@@ -128,7 +129,7 @@ pub clean-groups : (h : ℕ → ℕ) (t : Tree) (free : List ℕ) → sumGroups 
 clean-groups h (leaf c) free = refl
 clean-groups h (branch g f) free =
     byBool (allEmpty f)
-    (λ e. rw e (omega (arith, sumBelow-zero 5 (λ i. sumGroups h (f i)) (λ i b. ap (sumGroups h) (children-empty f (zero-is (sumBelow 5 (λ i. busy (f i))) e) i b)))))
+    (λ e. rw e (omega (arith, sumBelow-zero 5 (λ i. sumGroups h (f i)) (λ i b. ap (sumGroups h) (children-empty f (zero-is _ e) i b)))))
     (λ e. rw e (omega (arith, down-sum h 5 f free (λ i x. clean-groups h (f i) x))))
 
 pub clean-all : (P : Placed → Type 0) (t : Tree) → AllDots P t → AllDots P (cleanTree t)
@@ -145,4 +146,7 @@ module _ (S : Settings) where
   clean-valid c (branch g f) v =
       byBool (allEmpty f)
       (λ e. rw e (tt, λ m. omega arith))
-      (λ e. rw e (v .0, λ i b. (clean-all (λ d. routeDot c d ≡ i) (f i) (v .1 i b .0), clean-valid (childData c i) (f i) (v .1 i b .1)), λ i b. ap cleanTree (v .2 i b)))
+      (λ e.
+      let child : (i : ℕ) → i < 5 → AllDots (λ d. routeDot c d ≡ i) (cleanTree (f i)) × WellFormed S (childData c i) (cleanTree (f i)) =
+      λ i b. (clean-all (λ d. routeDot c d ≡ i) (f i) (v .1 i b .0), clean-valid (childData c i) (f i) (v .1 i b .1)) in
+      rw e (v .0, child, λ i b. ap cleanTree (v .2 i b)))

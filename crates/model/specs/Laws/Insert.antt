@@ -56,7 +56,8 @@ module _ (S : Settings) where
   splitCount (suc levels) n r (branch g f) = let i = route n r in splitCount levels (childData n i) r (f i)
 
 module _ (S : Settings) where
-  pub insert-sum : (h : Placed → ℕ) (n : ℕ) (c : NodeData) (d : Placed) (t : Tree) (free : List ℕ) → Shallow n t → sumDots h (insertAt S n c d t free .tree) ≡ h d + sumDots h t
+  pub insert-sum : (h : Placed → ℕ) (n : ℕ) (c : NodeData) (d : Placed) (t : Tree) (free : List ℕ) → Shallow n t
+      → sumDots h (insertAt S n c d t free .tree) ≡ h d + sumDots h t
   insert-sum h zero c d (leaf ds) free s = refl
   insert-sum h zero c d (branch g f) free s = absurd s
   insert-sum h (suc n) c d (leaf ds) [] s = refl
@@ -125,7 +126,8 @@ module _ (S : Settings) where
       all-map (λ d. Unit {0} × (routeDot c d ≡ j)) (λ d. routeDot c d ≡ j) (λ d p. p .1) (deal c (λ j. []) ds j)
       (deal-all (λ d. Unit {0}) c (λ j. []) ds (all-unit ds) (λ i. tt) j)
 
-  pub insert-all : (P : Placed → Type 0) (n : ℕ) (c : NodeData) (d : Placed) (t : Tree) (free : List ℕ) → P d → AllDots P t → AllDots P (insertAt S n c d t free .tree)
+  pub insert-all : (P : Placed → Type 0) (n : ℕ) (c : NodeData) (d : Placed) (t : Tree) (free : List ℕ) → P d → AllDots P t
+      → AllDots P (insertAt S n c d t free .tree)
   insert-all P zero c d (leaf ds) free p a = (p, a)
   insert-all P zero c d (branch g f) free p a = a
   insert-all P (suc n) c d (leaf ds) [] p a = (p, a)
@@ -173,7 +175,8 @@ module _ (S : Settings) where
     child-valid : (c e : NodeData) (ds : List Placed) → maySplit S c ≡ true → WellFormed S c (leaf ds) → (j : ℕ) → j < 5 → WellFormed S e (dealt c ds j)
     child-valid c e ds m v j b = (dealt-all (λ d. acceptableDot S (d .dot) ≡ true) c ds (v .0) j, λ z. omega (arith, child-length c ds j b, v .1 m))
 
-    pub insert-valid : (n : ℕ) (c : NodeData) (d : Placed) (t : Tree) (free : List ℕ) → levelsLeft S c ≤ n → acceptableDot S (d .dot) ≡ true → splitCount S n c (d .dot .rect) t ≤ length free → 1 ≤ S .«leaf_limit»
+    pub insert-valid : (n : ℕ) (c : NodeData) (d : Placed) (t : Tree) (free : List ℕ) → levelsLeft S c ≤ n → acceptableDot S (d .dot) ≡ true
+        → splitCount S n c (d .dot .rect) t ≤ length free → 1 ≤ S .«leaf_limit»
         → WellFormed S c t → WellFormed S c (insertAt S n c d t free .tree)
     insert-valid zero c d (leaf ds) free l f k lim v =
         ((f, v .0), λ m. absurd (omega (arith, levels-fall S one c m 0)))
@@ -220,7 +223,8 @@ module _ (S : Settings) where
 
   -- with that many groups the insert makes just those splits, each on a group that it takes
   pub insert-splits : (n : ℕ) (c : NodeData) (d : Placed) (t : Tree) (free : List ℕ) → splitCount S n c (d .dot .rect) t ≤ length free
-      → (insertAt S n c d t free .splits ≡ splitCount S n c (d .dot .rect) t) × (length (insertAt S n c d t free .free) + splitCount S n c (d .dot .rect) t ≡ length free)
+      → (insertAt S n c d t free .splits ≡ splitCount S n c (d .dot .rect) t)
+      × (length (insertAt S n c d t free .free) + splitCount S n c (d .dot .rect) t ≡ length free)
   insert-splits zero c d (leaf ds) free k = (refl, omega arith)
   insert-splits zero c d (branch g f) free k = (refl, omega arith)
   insert-splits (suc n) c d (leaf ds) [] k = (omega arith, omega arith)

@@ -15,7 +15,8 @@ use Rattle.model.specs.Laws.Lists.{length-joinBelow}
 use Rattle.arithmetic.specs.Tests.{byBool}
 use Rattle.geometry.specs.Settings.{inRange}
 use Rattle.model.specs.Shapes.{Shape, Valid}
-use Rattle.model.specs.Layout.{World, groupsOf, placesOf, nodesRight, dotsRight, marksRight, lengthsRight, NodeEntry, PlaceEntry, nodeEntries, placeEntries, nodeWords, dotWords, placeRect, stateOf, layout, cleared, Holds}
+use Rattle.model.specs.Layout.{World, groupsOf, placesOf, nodesRight, dotsRight, marksRight, lengthsRight, NodeEntry, PlaceEntry}
+use Rattle.model.specs.Layout.{nodeEntries, placeEntries, nodeWords, dotWords, placeRect, stateOf, layout, cleared, Holds}
 use Rattle.model.specs.Calls.{Verdict, Exit, carriedOut, Obeys}
 
 -- ---- lengths

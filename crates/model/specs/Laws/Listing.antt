@@ -10,6 +10,7 @@ use Prim.Native.Nat.{ℕ, _≤_}
 use native.Mathlib.Omega.{arith}
 use lib.ListN.{length}
 use Rattle.geometry.specs.declared.aabb.AABB.{AABB}
+use Rattle.geometry.specs.declared.settings.Settings.{Settings}
 use Rattle.geometry.specs.Settings.{rootRect}
 use Rattle.model.specs.Sums.{sumOver}
 use Rattle.model.specs.Laws.Sums.{sumOver-one, sumOver-map}
@@ -21,7 +22,7 @@ use Rattle.model.specs.Query.{hits}
 use Rattle.model.specs.Shapes.{Shape, Valid, root, listed, references}
 use Rattle.model.specs.Layout.{World, Holds}
 use Rattle.model.specs.declared.answers.Found.{Found}
-use Rattle.model.specs.Calls.{Reply, carriedOut, queryRule, allRule, Query, All}
+use Rattle.model.specs.Calls.{Reply, Exit, carriedOut, queryRule, allRule, Query, All}
 use Rattle.model.specs.Laws.Query.{hits-filter}
 use Rattle.model.specs.Laws.Shapes.{below-le, shape-routed}
 use Rattle.model.specs.Laws.Layout.{holds-settings}
@@ -57,8 +58,10 @@ pub all-query : (w : World) (row : List ℕ) (w′ : World) (row′ : List ℕ) 
     → All w row w′ row′ reply ↔ Query w (rootRect (w .state .settings)) row w′ row′ reply
 unfolding Query All allRule
 all-query w row w′ row′ reply =
-    let same : (x : Shape) → Holds w x → carriedOut w row (queryRule (rootRect (w .state .settings)) (length row) x) ≡ carriedOut w row (queryRule (rootRect (x .settings)) (length row) x) =
-    λ x h. ap (λ t. carriedOut w row (queryRule (rootRect t) (length row) x)) (holds-settings w x h) in (
-      λ all. record { badLength = all .badLength; badSettings = all .badSettings; noTree = all .noTree; tree = λ l s x h. all .tree l s x h ∙ sym (same x h) },
-      λ query. record { badLength = query .badLength; badSettings = query .badSettings; noTree = query .noTree; tree = λ l s x h. query .tree l s x h ∙ same x h },
+    let left : Settings → Shape → Exit ℕ Found = λ s x. carriedOut w row (queryRule (rootRect s) (length row) x) in
+    let same : (x : Shape) → Holds w x → left (w .state .settings) x ≡ left (x .settings) x = λ x h. ap (λ s. left s x) (holds-settings w x h) in (
+      λ all.
+          record { badLength = all .badLength; badSettings = all .badSettings; noTree = all .noTree; tree = λ l s x h. all .tree l s x h ∙ sym (same x h) },
+      λ query.
+          record { badLength = query .badLength; badSettings = query .badSettings; noTree = query .noTree; tree = λ l s x h. query .tree l s x h ∙ same x h },
     )

@@ -62,7 +62,8 @@ one-tree m a (branch g f) (branch h e) p q r s =
     ap₂ branch (sym same) (fun-ext each)
 
 -- the groups of a free list are no none
-pub one-free : (m : Mem) (h : ℕ) (gs hs : List ℕ) → ((k : ℕ) → 1 ≤ count k gs → k < 16384) → ((k : ℕ) → 1 ≤ count k hs → k < 16384) → FreeGroups m h gs → FreeGroups m h hs → gs ≡ hs
+pub one-free : (m : Mem) (h : ℕ) (gs hs : List ℕ) → ((k : ℕ) → 1 ≤ count k gs → k < 16384) → ((k : ℕ) → 1 ≤ count k hs → k < 16384)
+    → FreeGroups m h gs → FreeGroups m h hs → gs ≡ hs
 unfolding none
 one-free m h [] [] a b r s = refl
 one-free m h [] (k ∷ hs) a b r s = absurd (omega (arith, r, s .0, b k (omega (arith, indicator-same k))))
@@ -99,7 +100,8 @@ holds-one w x y hx hy =
     let groups : x .groups ≡ y .groups = omega (arith, r .nodes, s .nodes) in
     let places : x .places ≡ y .places = omega (arith, r .dots, s .dots) in
     let settings : x .settings ≡ y .settings = sym (r .settings) ∙ s .settings in
-    let tree = one-tree m 0 (x .tree) (y .tree) (well-told _ _ (x .tree) (vx .wellFormed) (size-small x vx)) (well-told _ _ (y .tree) (vy .wellFormed) (size-small y vy)) (r .tree) (s .tree) in
+    let told : (z : Shape) → Valid z → Told (z .tree) = λ z v. well-told _ _ (z .tree) (v .wellFormed) (size-small z v) in
+    let tree = one-tree m 0 (x .tree) (y .tree) (told x vx) (told y vy) (r .tree) (s .tree) in
     let freeGroups = one-free m (w .state .«free_group») (x .freeGroups) (y .freeGroups) (free-range x vx) (free-range y vy) (r .groups) (s .groups) in
     let equal : length (map blank (x .freePlaces)) ≡ length (map blank (y .freePlaces)) =
     omega (arith, length-blank (x .freePlaces), length-blank (y .freePlaces), live-and-free x vx, live-and-free y vy, places, ap size tree) in

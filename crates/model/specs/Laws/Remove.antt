@@ -115,7 +115,8 @@ module _ (k : ℕ) (r : AABB) where
   remove-all P c (leaf ds) a = all-out P k ds a
   remove-all P c (branch g f) a =
       let i = route c r in
-      λ j b. changed-all (λ (j : ℕ) (x : Tree). AllDots P x) f i (removeAt k r (childData c i) (f i)) j (λ e. remove-all P (childData c i) (f i) (a i (route-child c r))) (λ ne. a j b)
+      λ j b. changed-all (λ (j : ℕ) (x : Tree). AllDots P x) f i (removeAt k r (childData c i) (f i)) j
+      (λ e. remove-all P (childData c i) (f i) (a i (route-child c r))) (λ ne. a j b)
 
   pub remove-groups : (h : ℕ → ℕ) (c : NodeData) (t : Tree) → sumGroups h (removeAt k r c t) ≡ sumGroups h t
   remove-groups h c (leaf ds) = refl

@@ -17,7 +17,8 @@ use Rattle.arithmetic.specs.Linear.{and-t}
 use Rattle.geometry.specs.declared.aabb.AABB.{AABB}
 use Rattle.geometry.specs.declared.settings.Settings.{Settings}
 use Rattle.model.specs.Sums.{indicator, sumOver, sumBelow}
-use Rattle.model.specs.Laws.Sums.{indicator-same, indicator-other, sumOver-append, sumOver-one, sumOver-map, sumBelow-ext, sumBelow-le, sumBelow-add, sumBelow-zero, sumBelow-only, byDec}
+use Rattle.model.specs.Laws.Sums.{indicator-same, indicator-other, sumOver-append, sumOver-one, sumOver-map, sumBelow-ext}
+use Rattle.model.specs.Laws.Sums.{sumBelow-le, sumBelow-add, sumBelow-zero, sumBelow-only, byDec}
 use Rattle.model.specs.Lists.{upTo, count}
 use Rattle.arithmetic.specs.Tests.{byBool, true-false}
 use Rattle.geometry.specs.Settings.{rootFits, between, inRange, D}
@@ -55,7 +56,7 @@ count-upTo k zero = sym (below-no k 0 (omega arith))
 count-upTo k (suc n) =
     let a = sumOver-append (indicator k) (upTo n) (n ∷ []) in
     byDec (ℕ-discrete k n)
-    (λ e. omega (arith, a, count-upTo k n, below-no k n (omega arith), below-yes k (suc n) (omega arith), ap (λ (y : ℕ). indicator k y) (sym e), indicator-same k))
+    (λ e. omega (arith, a, count-upTo k n, below-no k n (omega arith), below-yes k (suc n) (omega arith), ap (indicator k) (sym e), indicator-same k))
     (λ ne.
     byDec (decLt k n)
     (λ l. omega (arith, a, count-upTo k n, below-yes k n l, below-yes k (suc n) (omega arith), indicator-other k n ne))
@@ -167,7 +168,8 @@ count-head : (ps : List ℕ) → 1 ≤ length ps → (k : ℕ) → indicator k (
 count-head [] h k = absurd (omega arith)
 count-head (p ∷ ps) h k = refl
 
-pub inserted-valid : (dot : Dot) (x : Shape) → Valid x → acceptableDot (x .settings) dot ≡ true → 1 ≤ length (x .freePlaces) → splitsNeeded dot x ≤ length (x .freeGroups)
+pub inserted-valid : (dot : Dot) (x : Shape) → Valid x → acceptableDot (x .settings) dot ≡ true → 1 ≤ length (x .freePlaces)
+    → splitsNeeded dot x ≤ length (x .freeGroups)
     → Valid (inserted dot x)
 unfolding inserted
 inserted-valid dot x v ok room enough =
@@ -186,7 +188,8 @@ inserted-valid dot x v ok room enough =
             insert-sum s (atPlace k) (D s) (root x) d (x .tree) (x .freeGroups) (valid-height x v),
             count-head (x .freePlaces) room k,
           );
-      wellFormed = insert-valid s (pos .smallestCell) (D s) (root x) d (x .tree) (x .freeGroups) (levels-root s) ok (omega (arith, needed-count dot x)) (pos .leafLimit) (v .wellFormed);
+      wellFormed = insert-valid s (pos .smallestCell) (D s) (root x) d (x .tree) (x .freeGroups) (levels-root s) ok
+          (omega (arith, needed-count dot x)) (pos .leafLimit) (v .wellFormed);
     }
 
 pub removed-valid : (id : ℕ) (r : AABB) (x : Shape) → Valid x → foundBy id r x ≡ true → Valid (removed id r x)
