@@ -2,7 +2,7 @@
 --     one-chain, one-tree, one-free    what is read from a link, a node, a head is one chain, one tree, one list
 --     holds-one    two shapes of one world are equal
 --     obeys-fixed  two exits of one call are equal
---     by-length, by-settings, by-no-tree, by-tree  the four ways through a call
+--     by-tree      a call on a tree: one shape tells what it leaves
 --     marks-cleared        the marks are 0 after each call not refused 1 or 2
 --     refused-untouched    a refused call leaves state, nodes, dots and answers untouched (§11.7)
 use mathlib.Core.Path.{_≡_, refl, ap, ap₂, sym, _∙_, subst, fun-ext}
@@ -126,36 +126,8 @@ obeys-fixed fits rule w row e f tree? o p =
     (λ s. o .badSettings l s ∙ sym (p .badSettings l s)))
     (λ l. o .badLength l ∙ sym (p .badLength l))
 
--- The four ways through a call: what each branch of the code has to show. The last wants one shape, the one that the scan finds.
+-- a call on a tree: the shape that is found tells what it leaves
 module _ {B A : Type 0} (fits : Bool) (rule : Shape → Verdict B A) (w : World) (row : List B) (e : Exit B A) where
-  pub by-length : lengthsRight w && fits ≡ false → e ≡ exit w row (refused 1) → Obeys fits rule w row e
-  by-length l p =
-      record {
-        badLength = λ _. p;
-        badSettings = λ l′ _. true-false (sym l′ ∙ l);
-        noTree = λ l′ _ _. true-false (sym l′ ∙ l);
-        tree = λ l′ _ _ _. true-false (sym l′ ∙ l);
-      }
-
-  pub by-settings : lengthsRight w && fits ≡ true → inRange (w .state .settings) ≡ false → e ≡ exit w row (refused 2) → Obeys fits rule w row e
-  by-settings l s p =
-      record {
-        badLength = λ l′. true-false (sym l ∙ l′);
-        badSettings = λ _ _. p;
-        noTree = λ _ s′ _. true-false (sym s′ ∙ s);
-        tree = λ _ s′ _ _. true-false (sym s′ ∙ s);
-      }
-
-  pub by-no-tree : lengthsRight w && fits ≡ true → inRange (w .state .settings) ≡ true → ((x : Shape) → Holds w x → ⊥) → e ≡ exit (cleared w) row (refused 3)
-      → Obeys fits rule w row e
-  by-no-tree l s n p =
-      record {
-        badLength = λ l′. true-false (sym l ∙ l′);
-        badSettings = λ _ s′. true-false (sym s ∙ s′);
-        noTree = λ _ _ _. p;
-        tree = λ _ _ y h. absurd (n y h);
-      }
-
   pub by-tree : lengthsRight w && fits ≡ true → inRange (w .state .settings) ≡ true → (x : Shape) → Holds w x → e ≡ carriedOut w row (rule x)
       → Obeys fits rule w row e
   by-tree l s x h p =
