@@ -40,7 +40,7 @@ module _ (s : Settings) where
   mustSplit n chain = maySplit s n && leb (s .«leaf_limit») (length chain)
 
   -- §5.1 to §5.4: down to a leaf; a leaf that must split takes the first free group and the dot goes on below it; any other leaf takes the dot as its head.
-  -- Where a group is wanted and none is free, refusal 7 came first: the clause for that is never reached (`refusal-7` of Laws.Splitting).
+  -- Where a group is wanted and none is free, refusal 7 came first: the clause for that is never reached (`made-needed` of Laws.Splitting).
   abbrev pub insertAt : ℕ → NodeData → Placed → Tree → List ℕ → Grown
   insertAt zero n d (leaf chain) free = record { tree = leaf (d ∷ chain); free = free; splits = 0 }
   insertAt zero n d (branch g f) free = record { tree = branch g f; free = free; splits = 0 }
