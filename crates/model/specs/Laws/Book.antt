@@ -1,6 +1,4 @@
 -- Laws of the book: how often a dot stands in it, as sums of weights.
---     onDot        a weight on dots, of a dot with its place
---     idIs, dotIs  1 at the dots of an id; 1 at those of an id and a rectangle
 --     without-sum, but-tree        what a remove that says yes does to every weight
 --     count-live, dead-count, has-dot, has-hit, hit-has    from counts to `Live` and `Has`, and back
 --     Told, book-told      the book is told arguments, accepted and yes alone (§12.4): nothing else of an event makes a difference
@@ -15,7 +13,6 @@ use lib.Dec.{eqb}
 use borrow.Author.Tests.{eqb-true}
 use Rattle.arithmetic.specs.Tests.{byBool}
 use Rattle.geometry.specs.declared.aabb.AABB.{AABB}
-use Rattle.geometry.specs.Rectangles.{sameRect}
 use Rattle.model.specs.declared.Dot.{Dot}
 use Rattle.model.specs.Sums.{indicator, sumOver}
 use Rattle.model.specs.Laws.Sums.{indicator-same, indicator-other, byDec}
@@ -24,16 +21,7 @@ use Rattle.model.specs.Dots.{isHit}
 use Rattle.model.specs.Trees.{Placed, Tree, sumDots}
 use Rattle.model.specs.Laws.Trees.{dots, sumDots-dots}
 use Rattle.model.specs.Book.{Event, insert, remove, cleanup, query, accepted, saidYes, without, entered, bookAfter, Has, Live, meeting}
-use Rattle.model.specs.Laws.Remove.{sameRect-same}
-
-abbrev pub onDot : (Dot → ℕ) → Placed → ℕ
-onDot h d = h (d .dot)
-
-abbrev pub idIs : ℕ → Dot → ℕ
-idIs k d = indicator k (d .id)
-
-abbrev pub dotIs : ℕ → AABB → Dot → ℕ
-dotIs k r d = cond (sameRect r (d .rect)) (idIs k d) 0
+use Rattle.model.specs.Laws.Dots.{onDot, idIs, dotIs, sameRect-same}
 
 -- h, but 0 at the id k
 abbrev pub but : ℕ → (Dot → ℕ) → Dot → ℕ

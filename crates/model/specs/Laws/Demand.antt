@@ -1,4 +1,4 @@
--- THE PROOF OF DEMAND 3. Idea: along a run the memory stays a tree (`Inv .holds`), and every weight sums to the same over its dots and over the book
+-- THE PROOF OF Demand3 (§12). Idea: along a run the memory stays a tree (`Inv .holds`), and every weight sums to the same over its dots and over the book
 -- (`Inv .same`); so what the query, the remove and the size of the tree say, the book says. After the list, quiet calls change the tree by cleanups alone.
 --     Inv, step-inv, run-inv       the invariant, kept by a call and by a list of calls
 --     quiet-run    what quiet calls keep, and what D cleanups among them bring about
@@ -42,7 +42,8 @@ use borrow.Author.Tests.{eq-eqb}
 use Rattle.model.specs.Laws.Remove.{found-gone, found-live}
 use Rattle.model.specs.Laws.Shapes.{valid-height, shape-routed}
 use Rattle.model.specs.Laws.Runs.{made-holds}
-use Rattle.model.specs.Laws.Book.{onDot, idIs, dotIs, but, without-sum, without-le, but-tree, dead-count, has-dot, has-hit, hit-has, meeting-le}
+use Rattle.model.specs.Laws.Book.{but, without-sum, without-le, but-tree, dead-count, has-dot, has-hit, hit-has, meeting-le}
+use Rattle.model.specs.Laws.Dots.{onDot, idIs, dotIs}
 use Rattle.model.specs.Laws.Lists.{sum-filter}
 use Rattle.model.specs.Laws.Calls.{insert-cases, insert-refused, insert-accepted, remove-no, remove-yes}
 use Rattle.model.specs.Laws.Calls.{cleanup-done, query-short, query-done, query-holds}

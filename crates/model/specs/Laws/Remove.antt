@@ -4,7 +4,7 @@
 --     remove-all, remove-groups, remove-valid      what it keeps
 use mathlib.Core.Path.{_≡_, refl, ap, sym, _∙_, subst}
 use mathlib.Core.List.{List, [], _∷_}
-use mathlib.Core.Bool.{true, cond, _&&_}
+use mathlib.Core.Bool.{true}
 use Prim.Native.Nat.{ℕ, _+_, _≤_}
 use native.Mathlib.Decide.{decLe}
 use native.Mathlib.Omega.{arith}
@@ -12,42 +12,21 @@ use lib.ListN.{length}
 use Rattle.geometry.specs.declared.aabb.AABB.{AABB}
 use Rattle.geometry.specs.declared.settings.Settings.{Settings}
 use Rattle.geometry.specs.declared.node_data.NodeData.{NodeData}
-use Rattle.model.specs.Sums.{indicator, sumOver}
+use Rattle.model.specs.Sums.{sumOver}
 use Rattle.model.specs.Laws.Sums.{indicator-other, sumOver-le, changed-other, changed-all, sumBelow-some, sumBelow-changed, byDec}
 use Rattle.model.specs.Lists.{All}
 use Rattle.arithmetic.specs.Tests.{byBool, true-false}
 use Rattle.model.specs.Trees.{Placed, Tree, leaf, branch, sumDots, sumGroups, AllDots}
 use Rattle.model.specs.Insert.{routeDot}
+use Rattle.model.specs.declared.Dot.{Dot}
 use Rattle.model.specs.Dots.{acceptableDot, matches}
-use Rattle.model.specs.Laws.Dots.{match-id, id-match}
+use Rattle.model.specs.Laws.Dots.{match-id, id-match, onDot, idIs, dotIs, sameRect-true}
 use Rattle.geometry.specs.Cells.{childData, route}
 use Rattle.geometry.specs.Rectangles.{sameRect}
 use Rattle.geometry.specs.Laws.Geometry.{route-child}
-use lib.IntN.{ℤ}
-use Rattle.arithmetic.specs.Ints.{eqZ}
-use Rattle.arithmetic.specs.Linear.{eq-t, t-eq, nat-eq, and-t}
 use Rattle.model.specs.Remove.{firstHas, firstOut, firstPlace, removeSays, removeAt, removePlace}
 use Rattle.model.specs.Laws.Query.{Routed}
 use Rattle.model.specs.Shapes.{WellFormed}
-
-eqZ-true : (a b : ℤ) → eqZ a b ≡ true → a ≡ b
-eqZ-true a b e = nat-eq a b (eq-t a b e)
-
-pub sameRect-true : (a b : AABB) → sameRect a b ≡ true → a ≡ b
-unfolding sameRect
-sameRect-true a b e =
-    let p = and-t (eqZ (a .x1) (b .x1) && eqZ (a .y1) (b .y1)) (eqZ (a .x2) (b .x2) && eqZ (a .y2) (b .y2)) e in
-    let q = and-t (eqZ (a .x1) (b .x1)) (eqZ (a .y1) (b .y1)) (p .0) in
-    let r = and-t (eqZ (a .x2) (b .x2)) (eqZ (a .y2) (b .y2)) (p .1) in
-    let x1 = eqZ-true (a .x1) (b .x1) (q .0) in
-    let y1 = eqZ-true (a .y1) (b .y1) (q .1) in
-    let x2 = eqZ-true (a .x2) (b .x2) (r .0) in
-    let y2 = eqZ-true (a .y2) (b .y2) (r .1) in
-    λ i. record { x1 = x1 i; y1 = y1 i; x2 = x2 i; y2 = y2 i }
-
-pub sameRect-same : (r : AABB) → sameRect r r ≡ true
-unfolding sameRect
-sameRect-same r = rw (t-eq (r .x1) (r .x1) refl, t-eq (r .y1) (r .y1) refl, t-eq (r .x2) (r .x2) refl, t-eq (r .y2) (r .y2) refl) refl
 
 -- a dot of id k went, and p was its place
 abbrev pub Gone : ℕ → ℕ → ((Placed → ℕ) → ℕ) → ((Placed → ℕ) → ℕ) → Type 0
@@ -60,7 +39,7 @@ out-gone k (d ∷ ds) e =
     (λ t. (d, match-id k (d .dot) t, (λ h. rw t refl), rw t refl))
     (λ t. let r = out-gone k ds (rw t at e) in (r .0, r .1, (λ h. rw t (omega (arith, r .2 h))), rw t (r .3)))
 
-pub has-first : (k : ℕ) (ds : List Placed) → 1 ≤ sumOver (λ d. indicator k (d .dot .id)) ds → firstHas k ds ≡ true
+pub has-first : (k : ℕ) (ds : List Placed) → 1 ≤ sumOver (onDot (idIs k)) ds → firstHas k ds ≡ true
 has-first k [] h = absurd (omega arith)
 has-first k (d ∷ ds) h =
     byBool (matches k (d .dot))
@@ -82,15 +61,11 @@ allDots-some P h (leaf c) a b = all-some P h c a b
 allDots-some P h (branch g f) a b =
     let s = sumBelow-some 5 (λ i. sumDots h (f i)) b in allDots-some P h (f (s .0)) (a (s .0) (s .1)) (s .2)
 
--- 1 at a dot of this id and rectangle
-abbrev pub pair : ℕ → AABB → Placed → ℕ
-pair k r d = cond (sameRect r (d .dot .rect)) (indicator k (d .dot .id)) 0
+dot-id : (k : ℕ) (r : AABB) (d : Dot) → dotIs k r d ≤ idIs k d
+dot-id k r d = byBool (sameRect r (d .rect)) (λ e. rw e (omega arith)) (λ e. rw e (omega arith))
 
-pair-le : (k : ℕ) (r : AABB) (d : Placed) → pair k r d ≤ indicator k (d .dot .id)
-pair-le k r d = byBool (sameRect r (d .dot .rect)) (λ e. rw e (omega arith)) (λ e. rw e (omega arith))
-
-pair-rect : (k : ℕ) (r : AABB) (d : Placed) → 1 ≤ pair k r d → r ≡ d .dot .rect
-pair-rect k r d h = byBool (sameRect r (d .dot .rect)) (λ e. sameRect-true r (d .dot .rect) e) (λ e. absurd (omega (arith, rw e at h)))
+dot-rect : (k : ℕ) (r : AABB) (d : Dot) → 1 ≤ dotIs k r d → r ≡ d .rect
+dot-rect k r d h = byBool (sameRect r (d .rect)) (λ e. sameRect-true r (d .rect) e) (λ e. absurd (omega (arith, rw e at h)))
 
 module _ (k : ℕ) (r : AABB) where
   pub found-gone : (c : NodeData) (t : Tree) → removeSays k r c t ≡ true → Gone k (removePlace k r c t) (λ h. sumDots h t) (λ h. sumDots h (removeAt k r c t))
@@ -100,15 +75,15 @@ module _ (k : ℕ) (r : AABB) where
       let x = found-gone (childData c i) (f i) e in
       (x .0, x .1, (λ h. omega (arith, x .2 h, sumBelow-changed 5 (λ j y. sumDots h y) f i (removeAt k r (childData c i) (f i)) (route-child c r))), x .3)
 
-  pub found-live : (c : NodeData) (t : Tree) → Routed c t → 1 ≤ sumDots (pair k r) t → removeSays k r c t ≡ true
-  found-live c (leaf ds) ro h = has-first k ds (omega (arith, sumOver-le (pair k r) (λ d. indicator k (d .dot .id)) ds (pair-le k r)))
+  pub found-live : (c : NodeData) (t : Tree) → Routed c t → 1 ≤ sumDots (onDot (dotIs k r)) t → removeSays k r c t ≡ true
+  found-live c (leaf ds) ro h = has-first k ds (omega (arith, sumOver-le (onDot (dotIs k r)) (onDot (idIs k)) ds (λ d. dot-id k r (d .dot))))
   found-live c (branch g f) ro h =
-      let s = sumBelow-some 5 (λ i. sumDots (pair k r) (f i)) h in
+      let s = sumBelow-some 5 (λ i. sumDots (onDot (dotIs k r)) (f i)) h in
       let j = s .0 in
       let i = route c r in
-      let d = allDots-some (λ d. routeDot c d ≡ j) (pair k r) (f j) (ro j (s .1) .0) (s .2) in
-      let e : j ≡ i = sym (ap (route c) (pair-rect k r (d .0) (d .2)) ∙ d .1) in
-      let p : 1 ≤ sumDots (pair k r) (f i) = subst (λ (y : ℕ). 1 ≤ sumDots (pair k r) (f y)) e (s .2) in
+      let d = allDots-some (λ d. routeDot c d ≡ j) (onDot (dotIs k r)) (f j) (ro j (s .1) .0) (s .2) in
+      let e : j ≡ i = sym (ap (route c) (dot-rect k r (d .0 .dot) (d .2)) ∙ d .1) in
+      let p : 1 ≤ sumDots (onDot (dotIs k r)) (f i) = subst (λ (y : ℕ). 1 ≤ sumDots (onDot (dotIs k r)) (f y)) e (s .2) in
       found-live (childData c i) (f i) (ro i (route-child c r) .1) p
 
   pub remove-all : (P : Placed → Type 0) (c : NodeData) (t : Tree) → AllDots P t → AllDots P (removeAt k r c t)
