@@ -72,7 +72,7 @@ abbrev pub bookAfter : List Dot → List Event → List Dot
 bookAfter b [] = b
 bookAfter b (e ∷ es) = bookAfter (entered b e) es
 
--- §12.3: The book of a list is the ledger of its live dots. It starts empty.
+-- §12.3: the book of a list is the ledger of its live dots; it starts empty
 abbrev pub book : List Event → List Dot
 book es = bookAfter [] es
 
@@ -136,9 +136,9 @@ pub record Promise (s : Settings) (w : World) (b : List Dot) : Type 0 where
   -- §12.7: the row has a word for each id to be listed, and then begins with the ids, as many as the answer reports
   pub lists : (q : AABB) (row row′ : List ℕ) (w′ : World) (reply : Reply Found) → Query w q row w′ row′ reply → length (meeting q b) ≤ length row
       → (a : Found) × (reply ≡ answered a) × Exactly q b (take (a .hits) row′)
-  -- §12.8
+  -- §12.8: a live id, by the rectangle of its insert: yes
   pub removesLive : (d : Dot) (w′ : World) (reply : Reply Bool) → Remove w (d .id) (d .rect) w′ reply → Has d b → reply ≡ answered true
-  -- §12.9
+  -- §12.9: any other id, by any rectangle: no
   pub keepsOthers : (id : ℕ) (r : AABB) (w′ : World) (reply : Reply Bool) → Remove w id r w′ reply → ¬ Live id b → reply ≡ answered false
   -- §12.10: a cleanup that D cleanups came before says no
   pub cleanupsEnd : (es : List Event) (v w′ : World) (reply : Reply Bool) → Run w es v → Quiet es → D s ≤ cleanups es → Cleanup v w′ reply

@@ -78,15 +78,15 @@ insertRule dot x =
     (cond (ltb (length (x .freeGroups)) (splitsNeeded dot x)) (refuse 7)
     (accept (inserted dot x) [] (splitsMade dot x)))))
 
--- §6.3, §11.6
+-- §6.3, §11.6: yes, or no and the tree as it was
 unfoldable pub removeRule : ℕ → AABB → Shape → Verdict ℕ Bool
 removeRule id r x = cond (foundBy id r x) (accept (removed id r x) [] true) (accept x [] false)
 
--- §7, §11.6
+-- §7, §11.6: on a tree it is never refused
 unfoldable pub cleanupRule : Shape → Verdict ℕ Bool
 cleanupRule x = accept (cleaned x) [] (cleans x)
 
--- §9.3, §11.6
+-- §9.3, §11.6: nor is this
 unfoldable pub referencesRule : Shape → Verdict ℕ ℕ
 referencesRule x = accept x [] (references x)
 
@@ -96,7 +96,7 @@ queryRule q room x =
     let ids = listed q x in
     cond (ltb room (length ids)) (overflow (length ids)) (accept x ids (record { hits = length ids; opened = opensFor q x }))
 
--- §8.5
+-- §8.5: a query with the root's rectangle
 unfoldable pub allRule : ℕ → Shape → Verdict ℕ Found
 allRule room x = queryRule (rootRect (x .settings)) room x
 

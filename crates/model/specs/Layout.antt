@@ -60,7 +60,7 @@ lengthsRight w = nodesRight w && dotsRight w && marksRight w
 
 -- ---- words
 
--- §2.4, §2.6
+-- §2.4, §2.6: the end of a list, and a branch's count
 unfoldable pub none : ℕ
 none = 4294967295
 

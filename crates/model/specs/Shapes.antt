@@ -49,7 +49,7 @@ WellFormed s n (branch g f) =
     × ((i : ℕ) → 5 ≤ i → f i ≡ leaf [])
 
 pub record Valid (x : Shape) : Type 0 where
-  -- §2.1, §1.4
+  -- §2.1, §1.4: G, N and the settings in range
   pub groupsFit : x .groups ≤ 16384
   pub placesFit : x .places ≤ 65536
   pub settingsFit : inRange (x .settings) ≡ true
@@ -87,7 +87,7 @@ placedIn dot x = record { place = headOf (x .freePlaces); dot = dot }
 abbrev pub grownBy : Dot → Shape → List ℕ → Grown
 grownBy dot x free = insertAt (x .settings) (D (x .settings)) (root x) (placedIn dot x) (x .tree) free
 
--- §5.4
+-- §5.4: the splits that an insert makes
 unfoldable pub splitsMade : Dot → Shape → ℕ
 splitsMade dot x = grownBy dot x (x .freeGroups) .splits
 

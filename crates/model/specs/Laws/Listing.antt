@@ -48,12 +48,12 @@ module _ (q : AABB) (x : Shape) (v : Valid x) where
       let found = hits q (root x) (x .tree) in
       omega (arith, sumOver-one (map (λ d. d .dot .id) found), sumOver-map (λ id. 1) (λ (d : Placed). d .dot .id) found, hits-le (λ d. 1))
 
--- §9.3
+-- §9.3: the references are all dots
 pub references-dots : (x : Shape) → references x ≡ length (dots (x .tree))
 unfolding references
 references-dots x = sym (sumDots-dots (λ d. 1) (x .tree)) ∙ sumOver-one (dots (x .tree))
 
--- §8.5
+-- §8.5: all is a query with the root's rectangle
 pub all-query : (w : World) (row : List ℕ) (w′ : World) (row′ : List ℕ) (reply : Reply Found)
     → All w row w′ row′ reply ↔ Query w (rootRect (w .state .settings)) row w′ row′ reply
 unfolding Query All allRule
