@@ -1,5 +1,5 @@
 // What every call turns down first: rows of another length (1), settings out of range (2), a memory that is no tree (3).
-// A refusal keeps state, nodes, dots and answers; 1 and 2 keep the marks too, 3 leaves them 0.
+// What a refusal keeps is §11.7: all, but that after 3 the marks are 0.
 use crate::calls::{Call, UNWRITTEN};
 use crate::krakvinge::Rows;
 use crate::random::{short, Random};
@@ -96,10 +96,10 @@ pub fn turned_down() -> bool {
     let (mut random, mut counts) = (Random(5), [0; 4]);
     for _ in 0..ROUNDS {
         if let Err(text) = round(&mut random, &mut counts) {
-            println!("differential: DIFFERENCE from document 01: {text}");
+            println!("differential: DIFFERENCE from the specification: {text}");
             return false;
         }
     }
-    println!("differential: calls turned down as document 01 says: {} refused 1, {} refused 2, {} refused 3", counts[1], counts[2], counts[3]);
+    println!("differential: calls turned down as the specification says: {} refused 1, {} refused 2, {} refused 3", counts[1], counts[2], counts[3]);
     counts[1..].iter().all(|n| *n > 1000)
 }

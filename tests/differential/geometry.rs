@@ -1,4 +1,4 @@
-// Document 01's cells in whole numbers, for what the original does not count: splits needed and nodes opened.
+// The cells of docs/SPECIFICATION.md §3 and §4 in whole numbers, for what the original does not count: splits needed and nodes opened.
 use crate::calls::{Rect, Settings};
 
 #[derive(Clone, Copy)]

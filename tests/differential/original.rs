@@ -1,4 +1,4 @@
-// The original's answers, in the interface's words. What it does not have comes from document 01's rules over its own tree.
+// The original's answers, in the interface's words. What it does not have comes from the rules of docs/SPECIFICATION.md over its own tree.
 use crate::calls::{Answer, Call, List, Rect, Settings};
 use crate::geometry::{contains, is_refused_4, Cell};
 use crate::quadtree::quad_rect::QuadRect;
@@ -81,7 +81,7 @@ impl Original {
             return Answer::refused(4, call);
         }
         let element = QuadTreeElement::new(id, AABB::from(rect));
-        // document 01's 5 is the original's OutOfBounds
+        // refusal 5 is the original's OutOfBounds (§11.1)
         if !contains(&self.settings, rect) {
             return if self.tree.insert(element).is_err() { Answer::refused(5, call) } else { Answer::accepted([0, 0]) };
         }

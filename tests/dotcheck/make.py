@@ -1,5 +1,5 @@
 #!/usr/bin/env python3
-# Writes the recorded inputs and the outputs that document 01 asks for, each pair a file NAME.in and NAME.out.
+# Writes the recorded inputs and the outputs that docs/SPECIFICATION.md §13 asks for, each pair a file NAME.in and NAME.out.
 import os, sys
 folder = sys.argv[1]
 S = b'S,0,0,16,16,2,2,1\n'

@@ -1,5 +1,5 @@
 #!/usr/bin/env python3
-# A second reader of dotcheck's lines, written from document 01 alone: which lines are readable.
+# A second reader of dotcheck's lines, written from the requirements (docs/SPECIFICATION.md §13) alone: which lines are readable.
 # It makes a ticket of damaged lines, and holds the program's answers against its own: E,9 exactly for the unreadable ones.
 import random, re, subprocess, sys
 NUMBER = re.compile(rb'(0|-?[1-9][0-9]*)\Z')

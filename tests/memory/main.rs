@@ -1,4 +1,4 @@
-// Runs make, the check and references on random and damaged memories, against document 01 in plain Rust.
+// Runs make, the check and references on random and damaged memories, against the requirements in plain Rust.
 mod exports;
 #[path = "../../host/rust/krakvinge.rs"]
 #[allow(dead_code)]
@@ -156,11 +156,11 @@ fn compare(random: &mut Random, m: &Memory, counts: &mut [u64; 4]) {
     }
     let mut again = lent.clone();
     let answer = exports::check(&state, &mut lent);
-    assert!(answer == expected, "check says {answer}, document 01 {expected}: {m:?}");
+    assert!(answer == expected, "check says {answer}, the rules {expected}: {m:?}");
     assert!(lent == wanted, "check wrote: {m:?}");
     let mut count = [7; 2];
     let answer = exports::references(&state, &mut again, &mut count);
-    assert!(answer == expected, "references says {answer}, document 01 {expected}: {m:?}");
+    assert!(answer == expected, "references says {answer}, the rules {expected}: {m:?}");
     assert!(again == wanted, "references wrote: {m:?}");
     assert!(count == if expected == 0 { [m.live, 0] } else { [7; 2] }, "references counts {count:?}: {m:?}");
 }
@@ -176,7 +176,7 @@ fn round(random: &mut Random, made: &mut [u64; 4], counts: &mut [u64; 4]) {
         answer => answer,
     };
     made[expected as usize] += 1;
-    assert!(answer == expected, "make says {answer}, document 01 {expected}: {before:?}");
+    assert!(answer == expected, "make says {answer}, the rules {expected}: {before:?}");
     if expected != 0 {
         assert!(lent == before && state == before.state(), "a refused make wrote: {before:?}");
         compare(random, &before, counts);

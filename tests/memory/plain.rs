@@ -1,4 +1,4 @@
-// Document 01 in plain Rust: the lent memory with make, insert, remove and cleanup on its words, and the rules of 'the memory is a tree'.
+// docs/SPECIFICATION.md in plain Rust: the lent memory with make, insert, remove and cleanup on its words, and when it is a tree (§2.12).
 // It shares no code with the crates and takes no care of speed; the settings are the wrapper's.
 pub use crate::krakvinge::{Rect, Settings};
 
@@ -259,7 +259,7 @@ impl Memory {
         }
     }
 
-    // Refusals 1 to 3, or 0: document 01's sentences, one after another.
+    // Refusals 1 to 3, or 0: the rules of docs/SPECIFICATION.md §11, one after another.
     pub fn refusal(&self) -> u64 {
         let (groups, places) = (self.groups(), self.places());
         let lengths = self.nodes.len() == 2 * (1 + 5 * groups)

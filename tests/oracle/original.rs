@@ -1,4 +1,4 @@
-// The original's answers. What document 01 adds to it, the ranges of settings and refusal 4, is said here in whole numbers.
+// The original's answers. What docs/SPECIFICATION.md adds to it, the ranges of settings (§1.4) and refusal 4 (§11.1), is said here in whole numbers.
 use crate::intersections::IntersectsWith;
 use crate::quadtree::quadtree::{opened, routed};
 use crate::quadtree::{aabb::AABB, node_data::NodeData, quad_rect::QuadRect, quadrants::Quadrants};

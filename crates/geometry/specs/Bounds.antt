@@ -1,4 +1,4 @@
--- Bounds: the rectangles that a path of children 1 to 4 leads to.
+-- Bounds: the rectangles that a path of children leads to (§4.4), told by four comparisons.
 --     allBounds    those of the root: every rectangle in the range of coordinates
 --     boundsBelow  those of a child
 --     inBounds     whether a rectangle lies within them

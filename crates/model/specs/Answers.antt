@@ -1,4 +1,4 @@
--- What each answer of a call says: its reply, and the state after it. A refused call keeps the state that it was given.
+-- What each answer of a call says (§16.4): its reply, and the state after it. A refused call keeps the state that it was given.
 use mathlib.Core.Bool.{Bool, true, false}
 use Prim.Native.Nat.{ℕ}
 use Rattle.model.specs.declared.State.{State}

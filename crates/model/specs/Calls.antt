@@ -1,4 +1,4 @@
--- The public calls over any lent words (document 01, 'Turned-down calls'). What every call has in common is said once, in `Obeys`.
+-- The public calls over any lent words (§10, §11). What every call has in common is said once, in `Obeys`.
 --     Reply        a call's answer, or its refusal with its number
 --     Verdict      what a call does once the memory is a tree: refuse, or leave a shape, words in the row and an answer
 --     Exit         what a call leaves: the world, the row, the reply
@@ -19,16 +19,17 @@ use Rattle.model.specs.declared.answers.Found.{Found}
 use Rattle.geometry.specs.Rectangles.{inverted, farOut}
 use Rattle.geometry.specs.Settings.{rootOf, inRange, contains, rootRect}
 use Rattle.model.specs.Trees.{size}
-use Rattle.model.specs.Shapes.{Shape, fresh, inserted, splitsMade, splitsNeeded, removed, foundBy, cleaned, cleans, listed, opensFor, leaves, leafNumber, references}
+use Rattle.model.specs.Shapes.{Shape, fresh, inserted, splitsMade, splitsNeeded, removed, foundBy}
+use Rattle.model.specs.Shapes.{cleaned, cleans, listed, opensFor, leaves, leafNumber, references}
 use Rattle.model.specs.Layout.{World, groupsOf, placesOf, lengthsRight, layout, cleared, Holds}
 
--- 'A refusal returns its number and, but for 8, nothing else.' 8 'returns how many there are'.
+-- §11.8: a refusal has its number; `tooMany` is refusal 8 with how many answers there are (§11.5)
 pub data Reply (A : Type 0) : Type 0 where
   refused : ℕ → Reply A
   tooMany : ℕ → Reply A
   answered : A → Reply A
 
--- the paper's number of a refusal; 0 for a call that is not refused
+-- §11.1: the number of a refusal; 0 for a call that is not refused
 abbrev pub refusal : {A : Type 0} → Reply A → ℕ
 refusal (refused k) = k
 refusal (tooMany n) = 8
@@ -49,13 +50,13 @@ module _ {B A : Type 0} where
   abbrev pub exit : World → List B → Reply A → Exit B A
   exit w row reply = record { world = w; row = row; reply = reply }
 
-  -- 'Each keeps state, nodes, dots and answers'; marks 0; 'Longer rows keep their tail.'
+  -- §11.7: a refused call keeps all but the marks; §8.4, §9.2: the row's words after the answers are kept
   abbrev pub carriedOut : World → List B → Verdict B A → Exit B A
   carriedOut w row (refuse k) = exit (cleared w) row (refused k)
   carriedOut w row (overflow n) = exit (cleared w) row (tooMany n)
   carriedOut w row (accept x words a) = exit (layout x) (words ++ drop (length words) row) (answered a)
 
-  -- 'Every other call first: 1, 2, then 3 the memory isn't a tree. Each keeps state, nodes, dots and answers; 1 and 2 keep the marks too.'
+  -- §11.3, §11.7: refusals 1, 2, 3 in this order; 1 and 2 keep the marks too; else the rule.
   -- rowFits: what a call asks of its rows' lengths besides (the batch alone asks something).
   pub record Obeys (rowFits : Bool) (rule : Shape → Verdict B A) (w : World) (row : List B) (e : Exit B A) : Type 0 where
     pub badLength : lengthsRight w && rowFits ≡ false → e ≡ exit w row (refused 1)
@@ -67,7 +68,7 @@ module _ {B A : Type 0} where
 
 -- ---- the rules
 
--- 'Insert then: 4 inverted or a coordinate outside ..; 5 not contained; 6 live = N; 7 splits needed exceed free groups.'
+-- §11.4: refusals 4, 5, 6, 7, else §5
 unfoldable pub insertRule : Dot → Shape → Verdict ℕ ℕ
 insertRule dot x =
     let r = dot .rect in
@@ -77,31 +78,35 @@ insertRule dot x =
     (cond (ltb (length (x .freeGroups)) (splitsNeeded dot x)) (refuse 7)
     (accept (inserted dot x) [] (splitsMade dot x)))))
 
--- 'Answer yes or no.' 'Remove, cleanup, references: nothing further.'
+-- §6.3, §11.6: yes, or no and the tree as it was
 unfoldable pub removeRule : ℕ → AABB → Shape → Verdict ℕ Bool
 removeRule id r x = cond (foundBy id r x) (accept (removed id r x) [] true) (accept x [] false)
 
+-- §7, §11.6: on a tree it is never refused
 unfoldable pub cleanupRule : Shape → Verdict ℕ Bool
 cleanupRule x = accept (cleaned x) [] (cleans x)
 
+-- §9.3, §11.6: nor is this
 unfoldable pub referencesRule : Shape → Verdict ℕ ℕ
 referencesRule x = accept x [] (references x)
 
--- 'Query, leaves, all then: 8 the answers outnumber the row (a leaf is one answer and takes six words); it returns how many there are.'
+-- §8, §11.5: refusal 8 if there are more ids than words in the row
 unfoldable pub queryRule : AABB → ℕ → Shape → Verdict ℕ Found
 queryRule q room x =
     let ids = listed q x in
     cond (ltb room (length ids)) (overflow (length ids)) (accept x ids (record { hits = length ids; opened = opensFor q x }))
 
--- 'All: a query with the root's rectangle.'
+-- §8.5: a query with the root's rectangle
 unfoldable pub allRule : ℕ → Shape → Verdict ℕ Found
 allRule room x = queryRule (rootRect (x .settings)) room x
 
+-- §9, §11.5: a leaf takes six words of the row
 unfoldable pub leavesRule : ℕ → Shape → Verdict ℤ ℕ
 leavesRule room x = let n = leafNumber x in cond (ltb room (6 * n)) (overflow n) (accept x (leaves x) n)
 
 -- ---- the batch
 
+-- §10.4: the word of a yes or no
 abbrev pub yesNo : Bool → ℕ
 yesNo true = 1
 yesNo false = 0
@@ -111,23 +116,24 @@ pub record Recorded : Type 0 where
   pub shape : Shape
   pub word : ℕ
 
--- 'An answer is splits, 1 or 0, or 4294967040 + refusal.' 'A refused record writes its own answer word and nothing else'
+-- §10.4: the word of a refusal
 abbrev pub refusedWord : ℕ → ℕ
 refusedWord k = 4294967040 + k
 
+-- §10.4, §10.5: a refused record leaves the shape as it was
 abbrev pub recorded : {B A : Type 0} → (A → ℕ) → Shape → Verdict B A → Recorded
 recorded word x (refuse k) = record { shape = x; word = refusedWord k }
 recorded word x (overflow n) = record { shape = x; word = refusedWord 8 }
 recorded word x (accept y row a) = record { shape = y; word = word a }
 
--- 'Kinds: 0 insert, 1 remove, 2 cleanup.' 'A record of another kind answers 9.'
+-- §10.2, §10.5: the kinds, and 9 for any other
 unfoldable pub carryOut : Record → Shape → Recorded
 carryOut r x =
     cond (eqb (r .kind) 0) (recorded (λ splits. splits) x (insertRule (r .dot) x))
     (cond (eqb (r .kind) 1) (recorded yesNo x (removeRule (r .dot .id) (r .dot .rect) x))
     (cond (eqb (r .kind) 2) (recorded yesNo x (cleanupRule x)) (record { shape = x; word = refusedWord 9 })))
 
--- 'records after it go on': the fold of the single operations
+-- §10.3: record after record, each on what the one before left
 abbrev pub batchShape : List Record → Shape → Shape
 batchShape [] x = x
 batchShape (r ∷ rs) x = batchShape rs (carryOut r x .shape)
@@ -162,11 +168,11 @@ Leaves w row w′ row′ reply = Obeys true (leavesRule (length row)) w row (exi
 unfoldable pub All : World → List ℕ → World → List ℕ → Reply Found → Type 0
 All w row w′ row′ reply = Obeys true (allRule (length row)) w row (exit w′ row′ reply)
 
--- 'Batch: 1 covers rows of unequal length.' 'The check is made once.'
+-- §10.1, §10.3: rows of one length; one check, before all records
 unfoldable pub Batch : World → List Record → List ℕ → World → List ℕ → Reply (Unit {0}) → Type 0
 Batch w rs row w′ row′ reply = Obeys (eqb (length rs) (length row)) (batchRule rs) w row (exit w′ row′ reply)
 
--- 'Make, in this order: 1 a slice length isn't of the stated form, 2 settings outside their ranges. Nothing is written.' It is given no state: that of w is not read.
+-- §11.2, §2.11: refusals 1 and 2, which write nothing, else the fresh tree. Make is given no state: that of w is not read.
 pub record Make (w : World) (s : Settings) (w′ : World) (reply : Reply (Unit {0})) : Type 0 where
   pub badLength : lengthsRight w ≡ false → (w′ ≡ w) × (reply ≡ refused 1)
   pub badSettings : lengthsRight w ≡ true → inRange s ≡ false → (w′ ≡ w) × (reply ≡ refused 2)

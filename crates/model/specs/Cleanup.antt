@@ -1,4 +1,4 @@
--- Cleanup on the tree (document 01, 'Cleanup'): one level a call.
+-- Cleanup on the tree (§7): one level a call.
 --     allEmpty     the five children are empty leaves
 --     cleanTree    the tree that it leaves
 --     freedBy      the free groups that it leaves: the order in which branches are turned
@@ -19,11 +19,11 @@ abbrev pub busy : Tree → ℕ
 busy (leaf chain) = length chain
 busy (branch g f) = 1
 
--- 'whose five children are empty at that moment': an empty child is an empty leaf, and no child is turned before its parent is looked at
+-- §7.3: five empty leaves. No child is turned before its parent is visited, so the tree as it was tells.
 abbrev pub allEmpty : (ℕ → Tree) → Bool
 allEmpty f = isZero (sumBelow 5 (λ i. busy (f i)))
 
--- 'turns a branch whose five children are empty at that moment into an empty leaf .. A parent emptied by this waits for the next call.'
+-- §7.3, §7.4: such a branch becomes an empty leaf; one that becomes such by this call stays
 abbrev pub cleanTree : Tree → Tree
 cleanTree (leaf chain) = leaf chain
 cleanTree (branch g f) = cond (allEmpty f) (leaf []) (branch g (λ i. cleanTree (f i)))
@@ -33,13 +33,12 @@ abbrev pub downFrom {ℓ} : {S : Type ℓ} → ℕ → (ℕ → S → S) → S �
 downFrom zero f s = s
 downFrom (suc n) f s = downFrom n f (f n s)
 
--- 'depth first, a branch before its child branches 4 to 1, each with all below it'; child 0 is a leaf and frees nothing.
--- 'A freed group or place goes to the head.'
+-- §7.2, §2.10: a branch first, then what is below child 4, 3, 2, 1; each group freed becomes the head. Child 0 is a leaf and frees nothing.
 abbrev pub freedBy : Tree → List ℕ → List ℕ
 freedBy (leaf chain) free = free
 freedBy (branch g f) free = cond (allEmpty f) (g ∷ free) (downFrom 5 (λ i already. freedBy (f i) already) free)
 
--- 'It says yes if any was.' A root that is a leaf turns none: 'says no if the root is a leaf'.
+-- §7.5: how many were turned; §7.1: none, if the root is a leaf
 abbrev pub turned : Tree → ℕ
 turned (leaf chain) = 0
 turned (branch g f) = cond (allEmpty f) 1 (sumBelow 5 (λ i. turned (f i)))

@@ -1,8 +1,9 @@
--- Insert on the tree (document 01, 'Insert').
+-- Insert on the tree (§5).
 --     deal         a chain dealt to the five children
 --     mustSplit    the leaf is full and may split
 --     insertAt     the tree that an insert leaves, the groups then free, and the number of splits that it made
--- `levels` is how many levels may still be split below the node: D at the root. It never runs out (`levels-suffice` of Laws.Insert, `levels-root` of the geometry).
+-- `levels` is how many levels may still be split below the node: D at the root. It never runs out (`levels-suffice` of Laws.Insert, `levels-root` of
+-- the geometry).
 use mathlib.Core.List.{List, [], _∷_}
 use mathlib.Core.Bool.{Bool, cond, _&&_}
 use Prim.Native.Nat.{ℕ, zero, suc, _+_}
@@ -14,16 +15,16 @@ use Rattle.geometry.specs.Cells.{childData, route, maySplit}
 use Rattle.model.specs.Sums.{changed}
 use Rattle.model.specs.Trees.{Placed, Tree, leaf, branch}
 
--- the child that a dot goes to
+-- §4.2: the child that a dot goes to
 abbrev pub routeDot : NodeData → Placed → ℕ
 routeDot n d = route n (d .dot .rect)
 
--- 'its chain is dealt head first, each dot to the head of its child's chain'
+-- §5.2: from the head on, each dot becomes the head of its child's chain
 abbrev pub deal : NodeData → (ℕ → List Placed) → List Placed → ℕ → List Placed
 deal n chains [] = chains
 deal n chains (d ∷ ds) = deal n (changed chains (routeDot n d) (d ∷ chains (routeDot n d))) ds
 
--- the children of a leaf that has become a branch
+-- §5.2: the children of a leaf that has become a branch
 abbrev pub dealt : NodeData → List Placed → ℕ → Tree
 dealt n chain i = leaf (deal n (λ j. []) chain i)
 
@@ -34,13 +35,12 @@ pub record Grown : Type 0 where
   pub splits : ℕ
 
 module _ (s : Settings) where
-  -- 'If it holds at least the leaf limit and may split'
+  -- §5.2: the leaf is full and may split
   abbrev pub mustSplit : NodeData → List Placed → Bool
   mustSplit n chain = maySplit s n && leb (s .«leaf_limit») (length chain)
 
-  -- 'Insert routes to a leaf. If it holds at least the leaf limit and may split, it becomes a branch on a free group, .. and routing goes on.
-  -- Else the dot goes to the head. The answer is the number of splits.' 'the head is taken first'.
-  -- Where a group is wanted and none is free, refusal 7 came first: the clause for that is never reached (`refusal-7` of Laws.Splitting).
+  -- §5.1 to §5.4: down to a leaf; a leaf that must split takes the first free group and the dot goes on below it; any other leaf takes the dot as its head.
+  -- Where a group is wanted and none is free, refusal 7 came first: the clause for that is never reached (`made-needed` of Laws.Splitting).
   abbrev pub insertAt : ℕ → NodeData → Placed → Tree → List ℕ → Grown
   insertAt zero n d (leaf chain) free = record { tree = leaf (d ∷ chain); free = free; splits = 0 }
   insertAt zero n d (branch g f) free = record { tree = branch g f; free = free; splits = 0 }

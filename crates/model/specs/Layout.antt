@@ -1,4 +1,4 @@
--- The lent memory, and the words of a shape in it (document 01, 'Settings and lent memory').
+-- The lent memory, and the words of a shape in it (§2).
 --     World        state, nodes, dots, rects and marks: all that a call is given and leaves, besides its own arguments and its answer
 --     layout       THE words of a shape: an explicit function; marks 0
 --     cleared      a world with its marks 0
@@ -42,32 +42,32 @@ groupsOf w = length (w .nodes) / 10
 abbrev pub placesOf : World → ℕ
 placesOf w = length (w .dots) / 2
 
--- 'Nodes: u32, two words a node (first, count), 1 + 5G nodes, G from 0 to 16384.'
+-- §2.1: the nodes
 abbrev pub nodesRight : World → Bool
 nodesRight w = eqb (length (w .nodes)) (2 * (1 + 5 * groupsOf w)) && leb (groupsOf w) 16384
 
--- 'Dots: u32, two words a place (id, next); i32, four words a place (rectangle); N places, 0 to 65536.'
+-- §2.1: dots and rects
 abbrev pub dotsRight : World → Bool
 dotsRight w = eqb (length (w .dots)) (2 * placesOf w) && leb (placesOf w) 65536 && eqb (length (w .rects)) (4 * placesOf w)
 
--- 'Marks: N + G bytes'
+-- §2.1: the marks
 abbrev pub marksRight : World → Bool
 marksRight w = eqb (length (w .marks)) (placesOf w + groupsOf w)
 
--- refusal '1 a slice length isn't of the stated form'
+-- §11.1: what refusal 1 tests
 unfoldable pub lengthsRight : World → Bool
 lengthsRight w = nodesRight w && dotsRight w && marksRight w
 
 -- ---- words
 
--- 'None is 4294967295.' 'A branch is (first node of its group, 4294967295).'
+-- §2.4, §2.6: the end of a list, and a branch's count
 unfoldable pub none : ℕ
 none = 4294967295
 
 unfoldable pub branchMark : ℕ
 branchMark = 4294967295
 
--- 'a group's first node .. or none'; 'a place .. or none'
+-- the head of a list of groups, by its first node, and of a chain; none, if it is empty
 abbrev pub firstNode : List ℕ → ℕ
 firstNode [] = none
 firstNode (g ∷ gs) = childNode g 0
@@ -87,13 +87,12 @@ pub record PlaceEntry : Type 0 where
   pub dot : Dot
   pub next : ℕ
 
--- 'A leaf's first word is the place that heads its chain, or none'; 'a leaf's count is its chain's length';
--- 'A branch is (first node of its group, 4294967295)'. The tree t stands at the node a.
+-- §2.5, §2.6: the nodes of a tree that stands at the node a
 abbrev pub treeNodes : ℕ → Tree → List NodeEntry
 treeNodes a (leaf chain) = record { node = a; first = firstDot chain; count = length chain } ∷ []
 treeNodes a (branch g f) = record { node = a; first = childNode g 0; count = branchMark } ∷ joinBelow 5 (λ i. treeNodes (childNode g i) (f i))
 
--- 'An empty leaf is (none, 0).' 'A free group is five empty leaves, save that its first node's first word names the next free group's first node, or none.'
+-- §2.8: the five nodes of each free group
 abbrev pub freeGroupNodes : List ℕ → List NodeEntry
 freeGroupNodes [] = []
 freeGroupNodes (g ∷ gs) =
@@ -101,7 +100,7 @@ freeGroupNodes (g ∷ gs) =
     ∷ joinBelow 4 (λ i. record { node = childNode g (1 + i); first = none; count = 0 } ∷ [])
     ++ freeGroupNodes gs
 
--- 'a chained dot's next is the place after it, or none'
+-- §2.7: the places of a chain
 abbrev pub chainPlaces : List Placed → List PlaceEntry
 chainPlaces [] = []
 chainPlaces (d ∷ ds) = record { place = d .place; dot = d .dot; next = firstDot ds } ∷ chainPlaces ds
@@ -110,7 +109,7 @@ abbrev pub treePlaces : Tree → List PlaceEntry
 treePlaces (leaf chain) = chainPlaces chain
 treePlaces (branch g f) = joinBelow 5 (λ i. treePlaces (f i))
 
--- 'A free place has id 0, rectangle 0,0,0,0 and next = the next free place or none': the free places are a chain of blank dots
+-- §2.9: the free places are a chain of blank dots
 abbrev pub blank : ℕ → Placed
 blank p = record { place = p; dot = zeroDot }
 
@@ -126,7 +125,7 @@ abbrev pub nodeWords : List NodeEntry → ℕ → List ℕ
 nodeWords [] k = 0 ∷ 0 ∷ []
 nodeWords (e ∷ es) k = cond (eqb k (e .node)) (e .first ∷ e .count ∷ []) (nodeWords es k)
 
--- 'two words a place (id, next)'
+-- §2.1: id, next
 abbrev pub placeWords : Dot → ℕ → List ℕ
 placeWords d next = d .id ∷ next ∷ []
 
@@ -134,7 +133,7 @@ abbrev pub dotWords : List PlaceEntry → ℕ → List ℕ
 dotWords [] k = placeWords zeroDot 0
 dotWords (e ∷ es) k = cond (eqb k (e .place)) (placeWords (e .dot) (e .next)) (dotWords es k)
 
--- 'four words a place (rectangle)'
+-- §2.1: x1, y1, x2, y2
 abbrev pub rectWords : AABB → List ℤ
 rectWords r = r .x1 ∷ r .y1 ∷ r .x2 ∷ r .y2 ∷ []
 
@@ -144,7 +143,7 @@ placeRect (e ∷ es) k = cond (eqb k (e .place)) (rectWords (e .dot .rect)) (pla
 
 -- ---- the whole
 
--- 'The state carries settings, both free heads (a group's first node, a place, or none) and the live number'; 'live is the number of chained dots'
+-- §2.3; §2.12: live is the number of dots in the tree
 unfoldable pub stateOf : Shape → State
 stateOf x =
     record {
@@ -154,6 +153,7 @@ stateOf x =
       live = size (x .tree);
     }
 
+-- §2.1: every word, in the order of the numbers of nodes and places
 unfoldable pub layout : Shape → World
 layout x =
     record {
@@ -164,12 +164,12 @@ layout x =
       marks = replicate (x .places + x .groups) 0;
     }
 
--- 'Marks .. 0 everywhere after each call not refused 1 or 2.'
+-- §2.13: what a call makes of the marks
 unfoldable pub cleared : World → World
 cleared w =
     record { state = w .state; nodes = w .nodes; dots = w .dots; rects = w .rects; marks = replicate (length (w .marks)) 0 }
 
--- The memory is a tree, whatever its marks hold: its other words are those of a valid shape.
+-- §2.12, §2.13: the memory is a tree, whatever its marks hold: its other words are those of a valid shape
 pub record Holds (w : World) (x : Shape) : Type 0 where
   pub valid : Valid x
   pub words : cleared w ≡ layout x

@@ -21,24 +21,28 @@ pub record Mem : Type 0 where
   pub dot : ℕ → Dot
   pub next : ℕ → ℕ
 
--- 'two words a node (first, count)'
+-- §2.1: where the words of a node stand
 unfoldable pub firstAt : List ℕ → ℕ → ℕ
 firstAt nodes a = getD nodes (2 * a + 0) 0
 
 unfoldable pub countAt : List ℕ → ℕ → ℕ
 countAt nodes a = getD nodes (2 * a + 1) 0
 
--- 'two words a place (id, next)'
+-- §2.1: .. and of a place
 unfoldable pub idAt : List ℕ → ℕ → ℕ
 idAt dots p = getD dots (2 * p + 0) 0
 
 unfoldable pub nextAt : List ℕ → ℕ → ℕ
 nextAt dots p = getD dots (2 * p + 1) 0
 
--- 'four words a place (rectangle)'
 unfoldable pub rectAt : List ℤ → ℕ → AABB
 rectAt rects p =
-    record { x1 = getD rects (4 * p + 0) (pos 0); y1 = getD rects (4 * p + 1) (pos 0); x2 = getD rects (4 * p + 2) (pos 0); y2 = getD rects (4 * p + 3) (pos 0) }
+    record {
+      x1 = getD rects (4 * p + 0) (pos 0);
+      y1 = getD rects (4 * p + 1) (pos 0);
+      x2 = getD rects (4 * p + 2) (pos 0);
+      y2 = getD rects (4 * p + 3) (pos 0);
+    }
 
 abbrev pub dotAt : List ℕ → List ℤ → ℕ → Dot
 dotAt dots rects p = record { id = idAt dots p; rect = rectAt rects p }

@@ -1,4 +1,4 @@
--- Query, leaves and references on the tree (document 01, 'Query' and 'Batch, leaves, all, references').
+-- Query and leaves on the tree (§8, §9).
 --     hits         the dots that a query lists, in its order
 --     opened       how many nodes it opens
 --     leavesOf, leafCount  six numbers a leaf; how many leaves
@@ -16,22 +16,22 @@ use Rattle.model.specs.Dots.{isHit}
 use Rattle.model.specs.Trees.{Placed, Tree, leaf, branch}
 
 module _ (q : AABB) where
-  -- 'opens the root; in a branch child 0 first, then of 1 to 4 those with both tests true'; 'intersecting ids in that order, chain by chain'
+  -- §8.2, §8.3: child after child of those that are opened, and of a leaf what intersects, in the order of its chain
   abbrev pub hits : NodeData → Tree → List Placed
   hits n (leaf chain) = filter (λ d. isHit q (d .dot)) chain
   hits n (branch g f) = joinBelow 5 (λ i. cond (opens q n i) (hits (childData n i) (f i)) [])
 
-  -- 'the nodes opened, root included'
+  -- §8.4: the nodes opened, this one among them
   abbrev pub opened : NodeData → Tree → ℕ
   opened n (leaf chain) = 1
   opened n (branch g f) = 1 + sumBelow 5 (λ i. cond (opens q n i) (opened (childData n i) (f i)) 0)
 
--- 'per leaf six i32: centre x, centre y, half width, half height, depth, count'
+-- §9.2: the six numbers of a leaf
 abbrev pub leafWords : NodeData → List Placed → List ℤ
 leafWords n chain =
     let c = n .cell in c .«center_x» ∷ c .«center_y» ∷ c .«half_width» ∷ c .«half_height» ∷ pos (n .depth) ∷ pos (length chain) ∷ []
 
--- 'the query's walk over all children, skipping children 0': the words of all leaves, and how many leaves there are
+-- §9.1: the numbers of all leaves but children 0, and how many leaves those are
 abbrev pub leavesOf : NodeData → Tree → List ℤ
 leavesOf n (leaf chain) = leafWords n chain
 leavesOf n (branch g f) = joinBelow 4 (λ i. leavesOf (childData n (1 + i)) (f (1 + i)))

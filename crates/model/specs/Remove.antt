@@ -1,4 +1,4 @@
--- Remove on the tree (document 01, 'Remove'): routes a rectangle to one leaf, and frees the first dot there with that id.
+-- Remove on the tree (§6): of the leaf that a rectangle is routed to, the first dot with the id goes.
 --     firstHas, firstOut, firstPlace       of a chain: is there one, the chain without it, its place
 --     removeSays, removeAt, removePlace    the same of the leaf that the rectangle routes to
 use mathlib.Core.List.{List, [], _∷_}
@@ -11,6 +11,7 @@ use Rattle.model.specs.Sums.{changed}
 use Rattle.model.specs.Dots.{matches}
 use Rattle.model.specs.Trees.{Placed, Tree, leaf, branch}
 
+-- §6.2: the first dot of a chain that has the id
 abbrev pub firstHas : ℕ → List Placed → Bool
 firstHas id [] = false
 firstHas id (d ∷ ds) = cond (matches id (d .dot)) true (firstHas id ds)
@@ -23,7 +24,7 @@ abbrev pub firstPlace : ℕ → List Placed → ℕ
 firstPlace id [] = 0
 firstPlace id (d ∷ ds) = cond (matches id (d .dot)) (d .place) (firstPlace id ds)
 
--- 'Remove takes any rectangle, routes it to one leaf'
+-- §6.1: in one leaf alone
 module _ (id : ℕ) (r : AABB) where
   abbrev pub removeSays : NodeData → Tree → Bool
   removeSays n (leaf chain) = firstHas id chain

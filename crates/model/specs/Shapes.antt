@@ -1,6 +1,6 @@
--- The abstract state: everything that a lent memory which is a tree says, and nothing else (document 01, 'The memory is a tree when').
+-- The abstract state: everything that a lent memory which is a tree says, and nothing else (§2.11, §2.12).
 --     Shape        settings, G, N, the tree with its addresses, the free groups and the free places in the order of their lists
---     Valid        the rules of 'The memory is a tree' that speak of the tree
+--     Valid        the rules of §2.12 that speak of the tree
 --     fresh        the shape that an accepted make leaves
 --     inserted, removed, cleaned   the shapes that the calls leave; splitsMade, foundBy, cleans: what they answer
 --     splitsNeeded the splits that refusal 7 asks about
@@ -38,9 +38,9 @@ pub record Shape : Type 0 where
 unfoldable pub below : ℕ → ℕ → ℕ
 below k n = cond (ltb k n) 1 0
 
--- The rules below a node. 'a branch could split' (were it a leaf, it would be one that may split; so 'child 0 is a leaf'); 'each dot has a rectangle that 4 and 5 below
--- wouldn't refuse and stands in the leaf it routes to'; 'a leaf's count is .. at most the leaf limit if it may split'.
--- The last part is no rule of the document: it says that a branch has no child beyond 4, so that a memory has one shape at most.
+-- §2.12, the rules below a node. Of a leaf: its dots are acceptable, and no more than the leaf limit if it may split. Of a branch: as a leaf it might split
+-- (so child 0 is a leaf), and every dot below a child goes to that child.
+-- The last part is no rule about words: a branch has no child beyond 4, so that a memory has one shape at most.
 abbrev pub WellFormed : Settings → NodeData → Tree → Type 0
 WellFormed s n (leaf chain) = All (λ d. acceptableDot s (d .dot) ≡ true) chain × (maySplit s n ≡ true → length chain ≤ s .«leaf_limit»)
 WellFormed s n (branch g f) =
@@ -49,16 +49,16 @@ WellFormed s n (branch g f) =
     × ((i : ℕ) → 5 ≤ i → f i ≡ leaf [])
 
 pub record Valid (x : Shape) : Type 0 where
-  -- 'G from 0 to 16384', 'N places, 0 to 65536'
+  -- §2.1, §1.4: G, N and the settings in range
   pub groupsFit : x .groups ≤ 16384
   pub placesFit : x .places ≤ 65536
   pub settingsFit : inRange (x .settings) ≡ true
-  -- 'every group and place is reached once, from the root or its free head, never both'
+  -- §2.12: every group and every place is met once, in the tree or in the free list
   pub groupsOnce : (k : ℕ) → groupCount k (x .tree) + count k (x .freeGroups) ≡ below k (x .groups)
   pub placesOnce : (k : ℕ) → placeCount k (x .tree) + count k (x .freePlaces) ≡ below k (x .places)
   pub wellFormed : WellFormed (x .settings) (rootData (x .settings)) (x .tree)
 
--- 'Fresh, as an accepted make leaves it: the root an empty leaf, all groups and places free, chained upward from 0'
+-- §2.11: an empty leaf; the free lists in rising order
 unfoldable pub fresh : Settings → ℕ → ℕ → Shape
 fresh s groups places =
     record { settings = s; groups = groups; places = places; tree = leaf []; freeGroups = upTo groups; freePlaces = upTo places }
@@ -71,7 +71,7 @@ reshaped x t freeGroups freePlaces =
 abbrev pub root : Shape → NodeData
 root x = rootData (x .settings)
 
--- 'the head is taken first'
+-- §2.10: what is taken, and what is left
 abbrev pub headOf : List ℕ → ℕ
 headOf [] = 0
 headOf (k ∷ ks) = k
@@ -80,46 +80,46 @@ abbrev pub tailOf : List ℕ → List ℕ
 tailOf [] = []
 tailOf (k ∷ ks) = ks
 
--- Insert: the dot at the place that it will have, and what the insert leaves where the free groups are `free`
+-- Insert (§5): the dot at the place that it will have, and what the insert leaves where the free groups are `free`
 abbrev pub placedIn : Dot → Shape → Placed
 placedIn dot x = record { place = headOf (x .freePlaces); dot = dot }
 
 abbrev pub grownBy : Dot → Shape → List ℕ → Grown
 grownBy dot x free = insertAt (x .settings) (D (x .settings)) (root x) (placedIn dot x) (x .tree) free
 
--- 'The answer is the number of splits.'
+-- §5.4: the splits that an insert makes
 unfoldable pub splitsMade : Dot → Shape → ℕ
 splitsMade dot x = grownBy dot x (x .freeGroups) .splits
 
--- 'splits needed': the splits that the same insert makes with groups enough. D are enough (`splits-enough` of Laws.Splitting).
+-- §11.4: the splits that the same insert makes with groups enough. D are enough (`splits-enough` of Laws.Splitting).
 unfoldable pub splitsNeeded : Dot → Shape → ℕ
 splitsNeeded dot x = grownBy dot x (upTo (D (x .settings))) .splits
 
 unfoldable pub inserted : Dot → Shape → Shape
 inserted dot x = let grown = grownBy dot x (x .freeGroups) in reshaped x (grown .tree) (grown .free) (tailOf (x .freePlaces))
 
--- Remove: yes or no, and the shape after a yes
+-- Remove (§6): yes or no, and the shape after a yes
 unfoldable pub foundBy : ℕ → AABB → Shape → Bool
 foundBy id r x = removeSays id r (root x) (x .tree)
 
 unfoldable pub removed : ℕ → AABB → Shape → Shape
 removed id r x = reshaped x (removeAt id r (root x) (x .tree)) (x .freeGroups) (removePlace id r (root x) (x .tree) ∷ x .freePlaces)
 
--- Cleanup
+-- Cleanup (§7): yes or no, and the shape after it
 unfoldable pub cleans : Shape → Bool
 cleans x = not (isZero (turned (x .tree)))
 
 unfoldable pub cleaned : Shape → Shape
 cleaned x = reshaped x (cleanTree (x .tree)) (freedBy (x .tree) (x .freeGroups)) (x .freePlaces)
 
--- Query
+-- Query (§8): the ids, and the nodes opened
 unfoldable pub listed : AABB → Shape → List ℕ
 listed q x = map (λ d. d .dot .id) (hits q (root x) (x .tree))
 
 unfoldable pub opensFor : AABB → Shape → ℕ
 opensFor q x = opened q (root x) (x .tree)
 
--- Leaves, References: 'the dots in all leaves'
+-- Leaves (§9.1, §9.2) and references (§9.3)
 unfoldable pub leaves : Shape → List ℤ
 leaves x = leavesOf (root x) (x .tree)
 

@@ -1,14 +1,14 @@
--- The tree with its addresses (document 01, 'Settings and lent memory'): which group a branch has, at which place each dot stands.
+-- The tree with its addresses (§2.2, §2.5 to §2.7): which group a branch has, at which place each dot stands.
 --     Placed, Tree
 --     childNode    the nodes of a group
 --     sumDots, sumGroups   a weight, summed over the dots or the groups; a count is the sum of an indicator
---     dots         all dots, in the order of the query's walk
-use mathlib.Core.Path.{_≡_, refl, _∙_}
+--     AllDots      what holds of every dot
+--     Shallow      how high a tree is at most
 use mathlib.Core.List.{List}
 use Prim.Native.Nat.{ℕ, zero, suc, _+_, _*_, _<_}
 use Rattle.model.specs.declared.Dot.{Dot}
-use Rattle.model.specs.Sums.{indicator, sumOver, sumBelow, sumBelow-ext}
-use Rattle.model.specs.Lists.{joinBelow, All, sumOver-joinBelow, all-joinBelow}
+use Rattle.model.specs.Sums.{indicator, sumOver, sumBelow}
+use Rattle.model.specs.Lists.{All}
 
 -- a dot with the place where it stands
 pub record Placed : Type 0 where
@@ -20,7 +20,7 @@ pub data Tree : Type 0 where
   leaf : List Placed → Tree
   branch : ℕ → (ℕ → Tree) → Tree
 
--- 'group k is nodes 1 + 5k to 5 + 5k'
+-- §2.2: child i of a group
 abbrev pub childNode : ℕ → ℕ → ℕ
 childNode group i = 1 + 5 * group + i
 
@@ -45,10 +45,6 @@ groupCount k t = sumGroups (indicator k) t
 abbrev pub size : Tree → ℕ
 size t = sumDots (λ d. 1) t
 
-abbrev pub dots : Tree → List Placed
-dots (leaf chain) = chain
-dots (branch g f) = joinBelow 5 (λ i. dots (f i))
-
 abbrev pub AllDots : (Placed → Type 0) → Tree → Type 0
 AllDots P (leaf chain) = All P chain
 AllDots P (branch g f) = (i : ℕ) → i < 5 → AllDots P (f i)
@@ -58,12 +54,3 @@ abbrev pub Shallow : ℕ → Tree → Type 0
 Shallow n (leaf chain) = Unit {0}
 Shallow zero (branch g f) = ⊥
 Shallow (suc n) (branch g f) = (i : ℕ) → i < 5 → Shallow n (f i)
-
-pub sumDots-dots : (h : Placed → ℕ) (t : Tree) → sumOver h (dots t) ≡ sumDots h t
-sumDots-dots h (leaf c) = refl
-sumDots-dots h (branch g f) =
-    sumOver-joinBelow h 5 (λ i. dots (f i)) ∙ sumBelow-ext 5 (λ i. sumOver h (dots (f i))) (λ i. sumDots h (f i)) (λ i b. sumDots-dots h (f i))
-
-pub allDots-dots : (P : Placed → Type 0) (t : Tree) → AllDots P t → All P (dots t)
-allDots-dots P (leaf c) a = a
-allDots-dots P (branch g f) a = all-joinBelow P 5 (λ i. dots (f i)) (λ i b. allDots-dots P (f i) (a i b))

@@ -1,4 +1,4 @@
--- The starred trials of document 01 ('Trials at the edges') as one table, computed by the checker.
+-- The trials of §14.1 as one table, computed by the checker.
 --     Trial, Line  a trial; a line of a trial that makes calls, with the answer that it must give
 --     passes       whether it comes out so, by the definitions of Settings, Rectangles, Cells and Calls
 --     table, all-pass      THE TABLE, and its one proof
@@ -17,13 +17,15 @@ use Rattle.model.specs.Dots.{isHit, matches}
 use Rattle.geometry.specs.Rectangles.{flat, intersects, middle, within, inverted, near, farOut}
 use Rattle.geometry.specs.Settings.{rootOf, W, bitsWithin, bitLength, halvings, D, contains, rootRect}
 use Rattle.geometry.specs.Cells.{routeCell, mayDivide, rootCell, rootData, childCentre, quarterCell, childCell, childData, quadrant, route, bothTests, opens}
-use Rattle.model.specs.Shapes.{Shape, fresh, inserted, splitsMade, splitsNeeded, removed, foundBy, cleaned, cleans, listed, opensFor, leaves as leafRow, leafNumber, references as dotCount}
+use Rattle.model.specs.Shapes.{Shape, fresh, inserted, splitsMade, splitsNeeded, removed, foundBy, cleaned, cleans}
+use Rattle.model.specs.Shapes.{listed, opensFor, leaves as leafRow, leafNumber, references as dotCount}
 use Rattle.model.specs.Layout.{none, branchMark, layout}
 use Rattle.model.specs.declared.answers.Found.{Found}
-use Rattle.model.specs.Calls.{Verdict, refuse, overflow, accept, recorded, refusedWord, yesNo, insertRule, removeRule, cleanupRule, queryRule, allRule, leavesRule, referencesRule}
+use Rattle.model.specs.Calls.{Verdict, refuse, overflow, accept, recorded, refusedWord, yesNo, insertRule}
+use Rattle.model.specs.Calls.{removeRule, cleanupRule, queryRule, allRule, leavesRule, referencesRule}
 use Rattle.arithmetic.specs.Ints.{maxZ, minZ}
 
--- 'Root 0,0,16,16, limits as above' (depth limit 2, smallest cell 1) with a leaf limit
+-- §14.1: the root and the limits, with a leaf limit
 abbrev settings : ℕ → Settings
 settings leafLimit =
     record {
@@ -36,7 +38,7 @@ settings leafLimit =
       «smallest_cell» = 1;
     }
 
--- those of dotcheck's sample
+-- those of dotcheck's sample (§13.7)
 abbrev sample : Settings
 sample = settings 2
 
@@ -50,7 +52,7 @@ room = 24
 abbrev rect : ℕ → ℕ → ℕ → ℕ → AABB
 rect x1 y1 x2 y2 = record { x1 = pos x1; y1 = pos y1; x2 = pos x2; y2 = pos y2 }
 
--- an answer is the word that the batch writes: splits, 1 or 0, or 4294967040 + refusal
+-- an answer is the word that the batch writes (§10.4)
 pub data Line : Type 0 where
   insert : ℕ → AABB → ℕ → Line
   remove : ℕ → AABB → ℕ → Line
@@ -141,38 +143,37 @@ leaf x y halfWidth halfHeight depth count row = x ∷ y ∷ halfWidth ∷ halfHe
 
 abbrev pub table : List Trial
 table =
-    -- '15,15,17,17 contained; 16,16,18,18 not; -1,-1,0,0 not (floor)'. The last is the trap 'halving the sum toward zero'.
+    -- §14.1 a; the last finds a middle rounded toward zero
     contained (rect 15 15 17 17) true
     ∷ contained (rect 16 16 18 18) false
     ∷ contained (record { x1 = negsuc 0; y1 = negsuc 0; x2 = pos 0; y2 = pos 0 }) false
-    -- '8,8,8,8 routes to 1; 8,8,9,9 to 0; 9,9,9,9 to 4'
+    -- b
     ∷ routed (rect 8 8 8 8) 1
     ∷ routed (rect 8 8 9 9) 0
     ∷ routed (rect 9 9 9 9) 4
-    -- '9,1,10,2 against 10,0,12,4: no; against 10,0,10,4: yes'
+    -- c
     ∷ meet (rect 9 1 10 2) (rect 10 0 12 4) false
     ∷ meet (rect 9 1 10 2) (rect 10 0 10 4) true
-    -- '16,1,17,2 is contained, yet All doesn't list it'
+    -- d
     ∷ contained (rect 16 1 17 2) true
     ∷ calls 2 2 (insert 1 (rect 16 1 17 2) 0 ∷ all [] ∷ [])
-    -- 'Leaf limit 1: dots 1,1,2,2 then 3,3,3,3: 2 splits; with G = 1 refused 7. Remove both: cleanup yes, yes, no.'
-    -- The last is the trap 'collapsing several levels in one cleanup'.
+    -- e, f; the last finds a cleanup that takes off more than a level
     ∷ calls 1 2 (
     insert 1 (rect 1 1 2 2) 0 ∷ insert 2 (rect 3 3 3 3) 2 ∷ remove 1 (rect 1 1 2 2) 1 ∷ remove 2 (rect 3 3 3 3) 1
     ∷ cleanup 1 ∷ cleanup 1 ∷ cleanup 0 ∷ []
     )
     ∷ calls 1 1 (insert 1 (rect 1 1 2 2) 0 ∷ insert 2 (rect 3 3 3 3) (refusedWord 7) ∷ [])
-    -- 'Remove of id 1 (at 1,1,2,2, after dotcheck's three inserts) by 3,3,4,4: yes; by 9,1,10,2: no.'
+    -- g, h
     ∷ calls 2 8 (three (remove 1 (rect 3 3 4 4) 1 ∷ []))
     ∷ calls 2 8 (three (remove 1 (rect 9 1 10 2) 0 ∷ []))
     ∷ []
 
--- not starred: dotcheck's own lines, `S,2`, `E,5`, `Q,3,2,3,1`, `D,3,1`, `C,0`; the traps that `table` has not; the order of freed groups; and every word
--- after dotcheck's three inserts, with G = 1
+-- others: the lines of §13.7; the mistakes of §14.2 that `table` has not; the order of freed groups; and every word after the three inserts of §13.7,
+-- with G = 1
 abbrev pub further : List Trial
 further =
     deepest 2
-    -- the trap 'a dealt chain kept in its old order': both dots of the parent's chain 2, 1 go to child 1, where they stand as 1, 2
+    -- a chain dealt without being reversed: both dots of the parent's chain 2, 1 go to child 1, where they must stand as 1, 2
     ∷ calls 2 8 (insert 1 (rect 1 1 2 2) 0 ∷ insert 2 (rect 3 3 3 3) 0 ∷ insert 3 (rect 9 9 10 10) 1 ∷ query (rect 0 0 16 16) (1 ∷ 2 ∷ 3 ∷ []) 6 ∷ [])
     -- groups 1 and 2 below children 1 and 4: child 4's is freed first, so that child 1's is the head; the root's own waits for the next call
     ∷ calls 1 4 (
@@ -183,7 +184,7 @@ further =
     ∷ calls 2 8 (three (
     insert 4 (rect 16 16 18 18) (refusedWord 5) ∷ query (rect 0 0 8 8) (3 ∷ 1 ∷ []) 3 ∷ remove 3 (rect 7 7 9 9) 1 ∷ cleanup 0 ∷ []
     ))
-    -- the trap 'taking leaf counts as the live number (child 0 is skipped)': three dots, of which the leaves count two
+    -- a live number added up from the leaves: three dots, of which the leaves count two
     ∷ calls 2 8 (three (
     references 3 ∷ leaves (leaf 4 4 4 4 1 1 (leaf 12 4 4 4 1 1 (leaf 4 12 4 4 1 0 (leaf 12 12 4 4 1 0 [])))) ∷ []
     ))
@@ -198,9 +199,15 @@ further =
     ∷ []
 
 pub all-pass : passAll table ≡ true
-unfolding flat intersects middle within inverted near farOut W bitsWithin bitLength halvings D contains rootRect rootCell rootData childCentre quarterCell childCell childData quadrant routeCell bothTests opens mayDivide fresh inserted splitsMade splitsNeeded removed foundBy cleaned cleans listed opensFor insertRule removeRule cleanupRule queryRule allRule isHit matches indicator changed maxZ minZ
+unfolding flat intersects middle within inverted near farOut W bitsWithin bitLength halvings D contains rootRect
+    rootCell rootData childCentre quarterCell childCell childData quadrant routeCell bothTests opens mayDivide
+    fresh inserted splitsMade splitsNeeded removed foundBy cleaned cleans listed opensFor
+    insertRule removeRule cleanupRule queryRule allRule isHit matches indicator changed maxZ minZ
 all-pass = refl
 
 pub further-pass : passAll further ≡ true
-unfolding flat intersects middle within inverted near farOut W bitsWithin bitLength halvings D contains rootRect rootCell rootData childCentre quarterCell childCell childData quadrant routeCell bothTests opens mayDivide fresh inserted splitsMade splitsNeeded removed foundBy cleaned cleans listed opensFor insertRule removeRule cleanupRule queryRule allRule leavesRule referencesRule leafRow leafNumber dotCount isHit matches indicator changed maxZ minZ layout none branchMark
+unfolding flat intersects middle within inverted near farOut W bitsWithin bitLength halvings D contains rootRect
+    rootCell rootData childCentre quarterCell childCell childData quadrant routeCell bothTests opens mayDivide
+    fresh inserted splitsMade splitsNeeded removed foundBy cleaned cleans listed opensFor leafRow leafNumber dotCount
+    insertRule removeRule cleanupRule queryRule allRule leavesRule referencesRule isHit matches indicator changed maxZ minZ layout none branchMark
 further-pass = refl

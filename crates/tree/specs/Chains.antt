@@ -8,7 +8,8 @@ use Prim.Native.Nat.{ℕ, _-_, _≤_}
 use native.Mathlib.Omega.{arith}
 use lib.IntN.{ℤ}
 use lib.ListN.{length}
-use Rattle.model.specs.Sums.{indicator-same, sumOver}
+use Rattle.model.specs.Sums.{sumOver}
+use Rattle.model.specs.Laws.Sums.{indicator-same}
 use Rattle.model.specs.Trees.{Placed, atPlace}
 use Rattle.model.specs.Layout.{none}
 use Rattle.model.specs.Memory.{nextAt, dotAt, Chained}

@@ -10,7 +10,8 @@ use Prim.Native.Nat.{ℕ, zero, suc, _+_, _-_, _≤_, _<_}
 use native.Mathlib.Nat.{not-suc-le-zero, le-refl}
 use native.Mathlib.Decide.{ℕ-discrete}
 use native.Mathlib.Omega.{arith}
-use Rattle.model.specs.Sums.{indicator, indicator-same, indicator-other, sumOver, sumBelow, sumBelow-ext, sumBelow-term, changed, changed-same, changed-other, byDec}
+use Rattle.model.specs.Sums.{indicator, sumOver, sumBelow, changed}
+use Rattle.model.specs.Laws.Sums.{indicator-same, indicator-other, sumBelow-ext, sumBelow-term, changed-same, changed-other, byDec}
 use Rattle.arithmetic.specs.Tests.{byBool}
 use Rattle.model.specs.Trees.{Tree, leaf, branch, childNode}
 use Rattle.model.specs.Layout.{none}

@@ -6,7 +6,8 @@ use mathlib.Core.Path.{_≡_, refl, sym, _∙_, subst}
 use mathlib.Core.List.{List, [], _∷_, _++_}
 use Prim.Native.Nat.{ℕ, _+_, _-_, _≤_}
 use native.Mathlib.Omega.{arith}
-use Rattle.model.specs.Sums.{indicator, indicator-same, sumOver, sumBelow, sumBelow-term}
+use Rattle.model.specs.Sums.{indicator, sumOver, sumBelow}
+use Rattle.model.specs.Laws.Sums.{indicator-same, sumBelow-term}
 use Rattle.model.specs.Trees.{Placed, Tree, leaf, branch, childNode, atPlace, placeCount}
 use Rattle.model.specs.Layout.{none}
 use Rattle.model.specs.Memory.{Mem, Chained, Represents}

@@ -7,7 +7,8 @@ use mathlib.Core.Bool.{true}
 use Prim.Native.Nat.{ℕ, suc, _+_, _-_, _<_}
 use native.Mathlib.Decide.{ℕ-discrete}
 use Rattle.geometry.specs.declared.node_data.NodeData.{NodeData}
-use Rattle.model.specs.Sums.{changed, changed-same, changed-other, byDec}
+use Rattle.model.specs.Sums.{changed}
+use Rattle.model.specs.Laws.Sums.{changed-same, changed-other, byDec}
 use Rattle.model.specs.Trees.{Placed, Tree, leaf, branch, childNode}
 use Rattle.tree.specs.Paths.{Children, sub, nodeAt, put}
 use Rattle.geometry.specs.declared.settings.Settings.{Settings}

@@ -9,7 +9,7 @@ use Rattle.model.specs.Trees.{atPlace, size}
 use Rattle.model.specs.Shapes.{Shape, Valid}
 use Rattle.model.specs.Layout.{World, blank, Holds}
 use Rattle.model.specs.Memory.{memory}
-use Rattle.model.specs.Laws.Shapes.{sumOver-map}
+use Rattle.model.specs.Laws.Sums.{sumOver-map}
 use Rattle.model.specs.Laws.Memory.{holds-represented, represented-holds}
 use Rattle.tree.specs.Stores.{Stored}
 

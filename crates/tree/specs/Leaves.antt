@@ -13,7 +13,8 @@ use lib.ListN.{length}
 use Rattle.geometry.specs.declared.aabb.AABB.{AABB}
 use Rattle.geometry.specs.declared.settings.Settings.{Settings}
 use Rattle.geometry.specs.Cells.{rootData}
-use Rattle.model.specs.Sums.{indicator, indicator-same, indicator-other, sumOver, byDec}
+use Rattle.model.specs.Sums.{indicator, sumOver}
+use Rattle.model.specs.Laws.Sums.{indicator-same, indicator-other, byDec}
 use Rattle.model.specs.Trees.{Placed, Tree, leaf, childNode, sumDots, atPlace, groupCount, placeCount}
 use Rattle.model.specs.Shapes.{Shape, root}
 use Rattle.model.specs.Layout.{World, Holds}

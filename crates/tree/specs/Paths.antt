@@ -8,7 +8,8 @@ use mathlib.Core.List.{List, [], _∷_}
 use Prim.Native.Nat.{ℕ, _+_, _-_, _≤_, _<_}
 use native.Mathlib.Decide.{ℕ-discrete}
 use native.Mathlib.Omega.{arith}
-use Rattle.model.specs.Sums.{indicator, indicator-same, indicator-other, sumBelow, sumBelow-ext, sumBelow-add, sumBelow-term, sumBelow-two, sumBelow-zero, sumBelow-only, sumBelow-changed, changed, changed-all, byDec}
+use Rattle.model.specs.Sums.{indicator, sumBelow, changed}
+use Rattle.model.specs.Laws.Sums.{indicator-same, indicator-other, sumBelow-ext, sumBelow-add, sumBelow-term, sumBelow-two, sumBelow-zero, sumBelow-only, sumBelow-changed, changed-all, byDec}
 use Rattle.model.specs.Trees.{Placed, Tree, leaf, branch, childNode, sumDots, sumGroups, atPlace, placeCount, groupCount}
 use Rattle.model.specs.Memory.{Mem, Represents}
 use Rattle.tree.specs.Frames.{sumNodes, nodeCount, SamePlace, SameNode, tree-frame}

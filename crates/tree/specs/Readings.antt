@@ -7,7 +7,8 @@ use Prim.Native.Nat.{ℕ}
 use lib.IntN.{ℤ}
 use Rattle.geometry.specs.declared.aabb.AABB.{AABB}
 use Rattle.model.specs.declared.Dot.{Dot}
-use Rattle.model.specs.Sums.{changed, changed-same, changed-other}
+use Rattle.model.specs.Sums.{changed}
+use Rattle.model.specs.Laws.Sums.{changed-same, changed-other}
 use Rattle.model.specs.Memory.{Mem, read, firstAt, countAt, idAt, nextAt, rectAt, dotAt}
 use Rattle.memory.specs.declared.node.Node.{Node}
 use Rattle.memory.specs.Rows.{HasNode, HasPlace, HasRect, setNodeAt, setNextAt, setIdAt, setRectAt}

@@ -9,7 +9,8 @@ use Prim.Native.Nat.{ℕ, _+_, _-_, _/_, _%_, _≤_, _<_}
 use native.Mathlib.Decide.{ℕ-discrete}
 use native.Mathlib.Omega.{arith}
 use lib.ListN.{length-append}
-use Rattle.model.specs.Sums.{indicator, indicator-same, indicator-other, indicator-le, sumOver, sumOver-append, sumBelow-zero, changed, changed-same, changed-other, byDec}
+use Rattle.model.specs.Sums.{indicator, sumOver, changed}
+use Rattle.model.specs.Laws.Sums.{indicator-same, indicator-other, indicator-le, sumOver-append, sumBelow-zero, changed-same, changed-other, byDec}
 use Rattle.model.specs.Dots.{zeroDot}
 use Rattle.model.specs.Trees.{Placed, Tree, leaf, branch, childNode, sumDots, sumGroups, atPlace, groupCount}
 use Rattle.model.specs.Layout.{none, blank}

@@ -21,7 +21,8 @@ use Rattle.geometry.specs.Settings.{inRange}
 use Rattle.geometry.specs.Cells.{rootData, childData, route}
 use Rattle.geometry.specs.Laws.Geometry.{route-child, may-splits}
 use Rattle.geometry.specs.Laws.Ranges.{accepted}
-use Rattle.model.specs.Sums.{changed, indicator-same, sumOver-one, sumBelow-term, byDec}
+use Rattle.model.specs.Sums.{changed}
+use Rattle.model.specs.Laws.Sums.{indicator-same, sumOver-one, sumBelow-term, byDec}
 use Rattle.model.specs.Trees.{Placed, Tree, leaf, branch, childNode, groupCount, size}
 use Rattle.model.specs.Remove.{firstHas, firstOut, firstPlace, removeSays, removeAt, removePlace}
 use Rattle.model.specs.Shapes.{Shape, WellFormed, root, below}

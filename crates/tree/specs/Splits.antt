@@ -9,7 +9,8 @@ use Prim.Native.Nat.{ℕ, _+_, _-_, _≤_, _<_}
 use native.Mathlib.Decide.{ℕ-discrete}
 use native.Mathlib.Omega.{arith}
 use Rattle.geometry.specs.declared.node_data.NodeData.{NodeData}
-use Rattle.model.specs.Sums.{indicator, indicator-same, indicator-eq, sumOver, sumBelow, sumBelow-term, sumBelow-changed, changed, changed-same, changed-other, changed-all, byDec}
+use Rattle.model.specs.Sums.{indicator, sumOver, sumBelow, changed}
+use Rattle.model.specs.Laws.Sums.{indicator-same, indicator-eq, sumBelow-term, sumBelow-changed, changed-same, changed-other, changed-all, byDec}
 use Rattle.model.specs.Trees.{Placed, Tree, leaf, branch, childNode, sumDots, sumGroups, atPlace, placeCount, groupCount}
 use Rattle.model.specs.Layout.{none, branchMark, blank}
 use Rattle.model.specs.Memory.{Mem, Chained, Represents, FreeGroups}

@@ -14,13 +14,15 @@ use lib.ListN.{length, length-append}
 use borrow.Author.Tests.{not-true, not-false, eqb-true, eqb-false}
 use Rattle.geometry.specs.Settings.{D}
 use Rattle.model.specs.declared.State.{State}
-use Rattle.model.specs.Sums.{indicator, indicator-same, sumOver, sumOver-one, sumOver-append, sumBelow, sumBelow-ext, sumBelow-term, byDec}
-use Rattle.model.specs.Lists.{All, count, sumOver-joinBelow}
+use Rattle.model.specs.Sums.{indicator, sumOver, sumBelow}
+use Rattle.model.specs.Laws.Sums.{indicator-same, sumOver-one, sumOver-append, sumBelow-ext, sumBelow-term, byDec, sumOver-map}
+use Rattle.model.specs.Lists.{All, count}
+use Rattle.model.specs.Laws.Lists.{sumOver-joinBelow}
 use Rattle.model.specs.Trees.{Placed, Tree, leaf, branch, childNode, atPlace, placeCount, AllDots, Shallow, size}
 use Rattle.model.specs.Shapes.{Shape, Valid, below}
 use Rattle.model.specs.Layout.{world, branchMark, NodeEntry, treeNodes, freeGroupNodes, nodeEntries, Holds}
 use Rattle.model.specs.Memory.{read, countAt, Represents, Represented}
-use Rattle.model.specs.Laws.Shapes.{below-yes, below-no, once-length, live-and-free, sumOver-map, valid-height}
+use Rattle.model.specs.Laws.Shapes.{below-yes, below-no, once-length, live-and-free, valid-height}
 use Rattle.model.specs.Laws.Entries.{nodeIs, nodes-once, node-range, node-there}
 use Rattle.model.specs.Laws.Memory.{holds-represented}
 use Rattle.memory.specs.declared.node.Node.{Node}

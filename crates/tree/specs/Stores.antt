@@ -9,7 +9,8 @@ use Prim.Native.Nat.{ℕ, _+_, _-_, _/_, _%_, _≤_, _<_}
 use native.Mathlib.Decide.{ℕ-discrete}
 use native.Mathlib.Omega.{arith}
 use Rattle.model.specs.declared.Dot.{Dot}
-use Rattle.model.specs.Sums.{indicator, indicator-same, indicator-other, indicator-le, sumOver, sumBelow-zero, changed, changed-same, changed-other, byDec}
+use Rattle.model.specs.Sums.{indicator, sumOver, changed}
+use Rattle.model.specs.Laws.Sums.{indicator-same, indicator-other, indicator-le, sumBelow-zero, changed-same, changed-other, byDec}
 use Rattle.model.specs.Trees.{Placed, Tree, leaf, branch, childNode, sumDots, sumGroups, atPlace, placeCount, groupCount}
 use Rattle.model.specs.Shapes.{below}
 use Rattle.model.specs.Layout.{none, blank}

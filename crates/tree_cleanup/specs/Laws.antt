@@ -18,7 +18,8 @@ use lib.ListN.{length}
 use borrow.Author.Tests.{eqb-true, eq-eqb}
 use Rattle.arithmetic.specs.Tests.{byBool}
 use Rattle.arithmetic.specs.Linear.{and-t, same-test}
-use Rattle.model.specs.Sums.{indicator, indicator-same, sumOver-one, sumBelow, sumBelow-le, sumBelow-term, changed, changed-other}
+use Rattle.model.specs.Sums.{indicator, sumBelow, changed}
+use Rattle.model.specs.Laws.Sums.{indicator-same, sumOver-one, sumBelow-le, sumBelow-term, changed-other}
 use Rattle.model.specs.Trees.{Tree, leaf, branch, childNode, Shallow, size}
 use Rattle.model.specs.Cleanup.{isZero, busy, allEmpty, freedBy, turned}
 use Rattle.model.specs.Layout.{none, branchMark}

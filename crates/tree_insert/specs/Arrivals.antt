@@ -22,7 +22,8 @@ use Rattle.geometry.specs.Laws.Geometry.{route-child, levelsLeft, levels-fall, 
 use Rattle.geometry.specs.Laws.Ranges.{accepted, root-range, child-range}
 use Rattle.model.specs.declared.State.{State}
 use Rattle.model.specs.declared.Dot.{Dot}
-use Rattle.model.specs.Sums.{sumOver-one, changed, byDec}
+use Rattle.model.specs.Sums.{changed}
+use Rattle.model.specs.Laws.Sums.{sumOver-one, byDec}
 use Rattle.model.specs.Trees.{Placed, Tree, leaf, branch, childNode, Shallow}
 use Rattle.model.specs.Insert.{Grown, insertAt}
 use Rattle.model.specs.Shapes.{Shape, WellFormed, root, placedIn, splitsNeeded}

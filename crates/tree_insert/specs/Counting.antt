@@ -27,7 +27,8 @@ use Rattle.geometry.specs.Bounds.{allBounds, boundsBelow, inBounds}
 use Rattle.geometry.specs.Laws.Bounds.{bounds-below, bounds-all}
 use Rattle.geometry.specs.Laws.Geometry.{route-child, levelsLeft, levels-fall, may-splits}
 use Rattle.geometry.specs.Laws.Ranges.{accepted}
-use Rattle.model.specs.Sums.{sumOver, sumOver-one, changed, changed-all, byDec}
+use Rattle.model.specs.Sums.{sumOver, changed}
+use Rattle.model.specs.Laws.Sums.{sumOver-one, changed-all, byDec}
 use Rattle.model.specs.Lists.{All}
 use Rattle.model.specs.Dots.{acceptableDot}
 use Rattle.model.specs.Trees.{Placed, leaf}

@@ -13,7 +13,8 @@ use Rattle.geometry.specs.declared.node_data.NodeData.{NodeData}
 use Rattle.geometry.specs.Cells.{routeCell, route}
 use Rattle.geometry.specs.Laws.Geometry.{route-child}
 use Rattle.model.specs.declared.Dot.{Dot}
-use Rattle.model.specs.Sums.{indicator, indicator-same, sumOver, changed-other, changed-all}
+use Rattle.model.specs.Sums.{indicator, sumOver}
+use Rattle.model.specs.Laws.Sums.{indicator-same, changed-other, changed-all}
 use Rattle.model.specs.Trees.{Placed, childNode, atPlace}
 use Rattle.model.specs.Insert.{routeDot}
 use Rattle.model.specs.Memory.{Mem, read, firstAt, countAt, nextAt, rectAt}

@@ -11,7 +11,8 @@ use lib.ListN.{length}
 use lib.Dec.{leb}
 use borrow.Author.Tests.{le-leb, lt-leb, leb-true}
 use Rattle.arithmetic.specs.Linear.{same-test}
-use Rattle.model.specs.Sums.{indicator, indicator-same, sumOver}
+use Rattle.model.specs.Sums.{indicator, sumOver}
+use Rattle.model.specs.Laws.Sums.{indicator-same}
 use Rattle.model.specs.Trees.{childNode}
 use Rattle.model.specs.Layout.{none}
 use Rattle.model.specs.Memory.{Mem, firstAt, FreeGroups}

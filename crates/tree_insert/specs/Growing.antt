@@ -18,7 +18,8 @@ use Rattle.geometry.specs.Cells.{InRange, childData, route, maySplit}
 use Rattle.geometry.specs.Laws.Geometry.{route-child, may-splits}
 use Rattle.geometry.specs.Laws.Ranges.{accepted, child-range}
 use Rattle.model.specs.declared.Dot.{Dot}
-use Rattle.model.specs.Sums.{sumOver, sumOver-one, sumBelow-term}
+use Rattle.model.specs.Sums.{sumOver}
+use Rattle.model.specs.Laws.Sums.{sumOver-one, sumBelow-term}
 use Rattle.model.specs.Trees.{Placed, Tree, leaf, childNode}
 use Rattle.model.specs.Insert.{Grown, deal, dealt, mustSplit}
 use Rattle.model.specs.Shapes.{Shape, placedIn, grownBy}

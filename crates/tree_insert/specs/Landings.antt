@@ -17,7 +17,7 @@ use Rattle.geometry.specs.declared.node_data.NodeData.{NodeData}
 use Rattle.geometry.specs.Settings.{D}
 use Rattle.model.specs.declared.State.{State}
 use Rattle.model.specs.declared.Dot.{Dot}
-use Rattle.model.specs.Sums.{indicator-same, byDec}
+use Rattle.model.specs.Laws.Sums.{indicator-same, byDec}
 use Rattle.model.specs.Dots.{acceptableDot}
 use Rattle.model.specs.Trees.{Placed, Tree, leaf}
 use Rattle.model.specs.Insert.{Grown, mustSplit, insertAt}

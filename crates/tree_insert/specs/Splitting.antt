@@ -12,7 +12,8 @@ use lib.IntN.{ℤ}
 use lib.ListN.{length}
 use Rattle.geometry.specs.declared.centered_aabb.CenteredAABB.{CenteredAABB}
 use Rattle.geometry.specs.declared.node_data.NodeData.{NodeData}
-use Rattle.model.specs.Sums.{indicator, indicator-same, sumOver, changed, changed-same, changed-other, byDec}
+use Rattle.model.specs.Sums.{indicator, sumOver, changed}
+use Rattle.model.specs.Laws.Sums.{indicator-same, changed-same, changed-other, byDec}
 use Rattle.model.specs.Trees.{Placed, Tree, leaf, childNode, sumDots, atPlace, groupCount}
 use Rattle.model.specs.Layout.{none, branchMark}
 use Rattle.model.specs.Memory.{Mem, read, firstAt, countAt}

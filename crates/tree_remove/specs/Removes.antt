@@ -16,7 +16,8 @@ use lib.Dec.{eqb}
 use Rattle.geometry.specs.declared.aabb.AABB.{AABB}
 use Rattle.model.specs.declared.State.{State}
 use Rattle.model.specs.declared.Dot.{Dot}
-use Rattle.model.specs.Sums.{changed, indicator-same, sumOver, sumOver-append, sumOver-one}
+use Rattle.model.specs.Sums.{changed, sumOver}
+use Rattle.model.specs.Laws.Sums.{indicator-same, sumOver-append, sumOver-one}
 use Rattle.model.specs.Dots.{matches, zeroDot}
 use Rattle.model.specs.Trees.{Placed, Tree, leaf, atPlace, size}
 use Rattle.model.specs.Remove.{firstHas, firstOut, firstPlace, removeAt, removePlace}

@@ -14,7 +14,8 @@ use borrow.Author.Tests.{eqb-true, eq-eqb, ne-eqb}
 use Rattle.arithmetic.specs.Linear.{and-t}
 use Rattle.model.specs.declared.Record.{Record}
 use Rattle.model.specs.declared.State.{State}
-use Rattle.model.specs.Lists.{joinBelow, length-joinBelow}
+use Rattle.model.specs.Lists.{joinBelow}
+use Rattle.model.specs.Laws.Lists.{length-joinBelow}
 use Rattle.model.specs.Laws.Entries.{getD-joinBelow}
 use Rattle.model.specs.Calls.{refused, answered}
 use Rattle.batch_step.specs.declared.Batched.{Batched}

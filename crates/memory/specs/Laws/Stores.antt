@@ -13,7 +13,8 @@ use lib.IntN.{ℤ, pos}
 use lib.ListN.{length, getD, set, length-set}
 use lib.Seq.{getD-set-same, getD-set-other}
 use Rattle.geometry.specs.declared.aabb.AABB.{AABB}
-use Rattle.model.specs.Sums.{changed, changed-same, changed-other, byDec}
+use Rattle.model.specs.Sums.{changed}
+use Rattle.model.specs.Laws.Sums.{changed-same, changed-other, byDec}
 use Rattle.model.specs.Memory.{firstAt, countAt, idAt, nextAt, rectAt}
 use Rattle.memory.specs.declared.node.Node.{Node}
 use Rattle.memory.specs.Rows.{HasNode, HasPlace, HasRect, setNodeAt, setNextAt, setIdAt, setRectAt}

@@ -1,11 +1,9 @@
 -- Laws of the book: how often a dot stands in it, as sums of weights.
---     onDot        a weight on dots, of a dot with its place
---     idIs, dotIs  1 at the dots of an id; 1 at those of an id and a rectangle
 --     without-sum, but-tree        what a remove that says yes does to every weight
 --     count-live, dead-count, has-dot, has-hit, hit-has    from counts to `Live` and `Has`, and back
---     Told, book-told      the book is fed arguments, 'accepted' and 'yes' alone: nothing else of an event, so nothing of the tree, makes a difference to it
+--     Told, book-told      the book is told arguments, accepted and yes alone (§12.4): nothing else of an event makes a difference
 use mathlib.Core.Path.{_≡_, refl, ap, sym, _∙_}
-use mathlib.Core.Logic.{_⊎_, inl, inr, ⊎-elim}
+use mathlib.Core.Logic.{inl, inr, ⊎-elim}
 use mathlib.Core.List.{List, [], _∷_, map}
 use mathlib.Core.Bool.{Bool, true, cond}
 use Prim.Native.Nat.{ℕ, _≤_}
@@ -15,23 +13,15 @@ use lib.Dec.{eqb}
 use borrow.Author.Tests.{eqb-true}
 use Rattle.arithmetic.specs.Tests.{byBool}
 use Rattle.geometry.specs.declared.aabb.AABB.{AABB}
-use Rattle.geometry.specs.Rectangles.{sameRect}
 use Rattle.model.specs.declared.Dot.{Dot}
-use Rattle.model.specs.Sums.{indicator, indicator-same, indicator-other, sumOver, byDec}
-use Rattle.model.specs.Lists.{filter}
+use Rattle.model.specs.Sums.{indicator, sumOver}
+use Rattle.model.specs.Laws.Sums.{indicator-same, indicator-other, byDec}
+use Rattle.model.specs.Laws.Lists.{filter-le, sum-filter}
 use Rattle.model.specs.Dots.{isHit}
-use Rattle.model.specs.Trees.{Placed, Tree, sumDots, dots, sumDots-dots}
+use Rattle.model.specs.Trees.{Placed, Tree, sumDots}
+use Rattle.model.specs.Laws.Trees.{dots, sumDots-dots}
 use Rattle.model.specs.Book.{Event, insert, remove, cleanup, query, accepted, saidYes, without, entered, bookAfter, Has, Live, meeting}
-use Rattle.model.specs.Laws.Remove.{sameRect-same}
-
-abbrev pub onDot : (Dot → ℕ) → Placed → ℕ
-onDot h d = h (d .dot)
-
-abbrev pub idIs : ℕ → Dot → ℕ
-idIs k d = indicator k (d .id)
-
-abbrev pub dotIs : ℕ → AABB → Dot → ℕ
-dotIs k r d = cond (sameRect r (d .rect)) (idIs k d) 0
+use Rattle.model.specs.Laws.Dots.{onDot, idIs, dotIs, sameRect-same}
 
 -- h, but 0 at the id k
 abbrev pub but : ℕ → (Dot → ℕ) → Dot → ℕ
@@ -60,10 +50,6 @@ pub but-tree : (h : Dot → ℕ) (k : ℕ) (t : Tree) → sumDots (onDot (idIs k
 but-tree h k t z = sym (sumDots-dots (onDot (but k h)) t) ∙ but-list h k (dots t) (sumDots-dots (onDot (idIs k)) t ∙ z) ∙ sumDots-dots (onDot h) t
 
 -- ---- counts
-
-pub sum-filter : {A : Type 0} (h : A → ℕ) (p : A → Bool) (xs : List A) → sumOver h (filter p xs) ≡ sumOver (λ x. cond (p x) (h x) 0) xs
-sum-filter h p [] = refl
-sum-filter h p (x ∷ xs) = byBool (p x) (λ e. rw e (omega (arith, sum-filter h p xs))) (λ e. rw e (omega (arith, sum-filter h p xs)))
 
 -- a dot of the book is counted by any weight that is 1 at it
 has-sum : (h : Dot → ℕ) (d : Dot) (b : List Dot) → h d ≡ 1 → Has d b → 1 ≤ sumOver h b
@@ -98,8 +84,7 @@ hit-has q k (d ∷ ds) c =
     (λ t. let l = hit-has q k ds (rw t at c) in (l .0, inr (l .1), l .2, l .3))
 
 pub meeting-le : (q : AABB) (k : ℕ) (b : List Dot) → sumOver (idIs k) (meeting q b) ≤ sumOver (idIs k) b
-meeting-le q k [] = omega arith
-meeting-le q k (d ∷ ds) = byBool (isHit q d) (λ t. rw t (omega (arith, meeting-le q k ds))) (λ t. rw t (omega (arith, meeting-le q k ds)))
+meeting-le q k b = filter-le (idIs k) (isHit q) b
 
 -- ---- what the book is told
 

@@ -5,13 +5,13 @@ use mathlib.Core.Path.{_≡_, refl, ap, sym, _∙_, subst}
 use mathlib.Core.Logic.{_⊎_, inl, inr}
 use mathlib.Core.List.{List, [], _++_}
 use mathlib.Core.Bool.{Bool, true, false, _||_}
-use Prim.Native.Nat.{ℕ, _+_, _≤_}
+use Prim.Native.Nat.{ℕ, _≤_}
 use native.Mathlib.Decide.{decLe}
 use native.Mathlib.Omega.{arith}
 use lib.ListN.{length, drop}
 use lib.Dec.{eqb, ltb}
 use Rattle.geometry.specs.declared.aabb.AABB.{AABB}
-use Rattle.model.specs.Sums.{byDec}
+use Rattle.model.specs.Laws.Sums.{byDec}
 use Rattle.arithmetic.specs.Tests.{byBool, true-false}
 use Rattle.geometry.specs.Rectangles.{inverted, farOut}
 use Rattle.geometry.specs.Settings.{rootOf, contains, acceptable}
@@ -21,7 +21,8 @@ use Rattle.model.specs.Trees.{size}
 use Rattle.model.specs.Shapes.{Shape, Valid, inserted, splitsMade, splitsNeeded, removed, foundBy, cleaned, cleans, listed, opensFor}
 use Rattle.model.specs.Layout.{World, Holds}
 use Rattle.model.specs.declared.answers.Found.{Found}
-use Rattle.model.specs.Calls.{Reply, tooMany, answered, refuse, overflow, accept, Exit, exit, carriedOut, insertRule, removeRule, cleanupRule, queryRule, Insert, Remove, Cleanup, Query}
+use Rattle.model.specs.Calls.{Reply, tooMany, answered, refuse, overflow, accept, Exit, exit, carriedOut, insertRule}
+use Rattle.model.specs.Calls.{removeRule, cleanupRule, queryRule, Insert, Remove, Cleanup, Query}
 use Rattle.model.specs.Book.{accepted}
 use borrow.Author.Tests.{eq-eqb, ltb-false}
 use Rattle.model.specs.Laws.Shapes.{live-and-free, inserted-valid, removed-valid, cleaned-valid}
@@ -110,7 +111,8 @@ cleanup-done w v reply call x h =
     let y = cleaned x in
     (subst (λ (u : World). Holds u y) (sym (world-of p)) (layout-holds y (cleaned-valid x (h .valid))), reply-of p)
 
-module _ (w : World) (q : AABB) (row : List ℕ) (v : World) (row′ : List ℕ) (reply : Reply Found) (call : Query w q row v row′ reply) (x : Shape) (h : Holds w x) where
+module _ (w : World) (q : AABB) (row : List ℕ) (v : World) (row′ : List ℕ) (reply : Reply Found) (call : Query w q row v row′ reply)
+    (x : Shape) (h : Holds w x) where
   pub query-exit : exit v row′ reply ≡ carriedOut w row (queryRule q (length row) x)
   unfolding Query
   query-exit = obeys-tree (queryRule q (length row)) w row (exit v row′ reply) call x h

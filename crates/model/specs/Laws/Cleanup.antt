@@ -1,24 +1,26 @@
--- Laws of the cleanup: it keeps dots, groups, routing and rules; it says no just on clean trees; on a tree at most n high the (n + 1)th in a row says no.
+-- Laws of the cleanup: it keeps dots, groups and rules; it says no just on clean trees; on a tree at most n high the (n + 1)th in a row says no.
 --     clean-sum, clean-groups      every weight sums to the same over the dots, and over the groups in the tree and free together
---     clean-all, clean-shallow, clean-routed, clean-valid  what it keeps
+--     clean-all, clean-valid       what it keeps
 --     no-clean, clean-no   it says no if and only if the tree is clean
 --     Tidy, shallow-tidy, tidy-clean, tidy-zero    every branch with no dot is at most n high; a cleanup takes a level off
 use mathlib.Core.Path.{_≡_, refl, ap, sym, _∙_}
 use mathlib.Core.List.{List, [], _∷_}
 use mathlib.Core.Bool.{true, false}
-use Prim.Native.Nat.{ℕ, zero, suc, _+_, _-_, _≤_, _<_}
+use Prim.Native.Nat.{ℕ, zero, suc, _+_, _≤_, _<_}
 use native.Mathlib.Nat.{le-refl}
 use native.Mathlib.Decide.{decLe}
 use native.Mathlib.Omega.{arith}
 use Rattle.geometry.specs.declared.settings.Settings.{Settings}
 use Rattle.geometry.specs.declared.node_data.NodeData.{NodeData}
-use Rattle.model.specs.Sums.{sumOver, sumOver-one, sumBelow, sumBelow-ext, sumBelow-term, sumBelow-zero, sumBelow-some, byDec}
+use Rattle.model.specs.Sums.{sumOver, sumBelow}
+use Rattle.model.specs.Laws.Sums.{sumOver-one, sumBelow-ext, sumBelow-term, sumBelow-zero, sumBelow-some, byDec}
 use Rattle.arithmetic.specs.Tests.{byBool, true-false}
 use Rattle.model.specs.Trees.{Placed, Tree, leaf, branch, sumDots, sumGroups, AllDots, Shallow, size}
 use Rattle.model.specs.Insert.{routeDot}
 use Rattle.geometry.specs.Cells.{childData}
 use Rattle.model.specs.Cleanup.{isZero, busy, allEmpty, cleanTree, downFrom, freedBy, turned}
-use Rattle.model.specs.Laws.Query.{Routed, Clean, clean-live}
+use Rattle.model.specs.Laws.Trees.{shallow-le}
+use Rattle.model.specs.Laws.Query.{Clean, clean-live}
 use Rattle.model.specs.Shapes.{WellFormed}
 
 pub zero-is : (n : ℕ) → isZero n ≡ true → n ≡ 0
@@ -68,14 +70,9 @@ abbrev pub Tidy : ℕ → Tree → Type 0
 Tidy n (leaf c) = Unit {0}
 Tidy n (branch g f) = (size (branch g f) ≡ 0 → Shallow n (branch g f)) × ((i : ℕ) → i < 5 → Tidy n (f i))
 
-shallow-suc : (n : ℕ) (t : Tree) → Shallow n t → Shallow (suc n) t
-shallow-suc n (leaf c) s = tt
-shallow-suc zero (branch g f) s = absurd s
-shallow-suc (suc n) (branch g f) s = λ i b. shallow-suc n (f i) (s i b)
-
 pub tidy-suc : (n : ℕ) (t : Tree) → Tidy n t → Tidy (suc n) t
 tidy-suc n (leaf c) s = tt
-tidy-suc n (branch g f) s = (λ z. shallow-suc n (branch g f) (s .0 z), λ i b. tidy-suc n (f i) (s .1 i b))
+tidy-suc n (branch g f) s = (λ z. shallow-le n (suc n) (branch g f) (omega arith) (s .0 z), λ i b. tidy-suc n (f i) (s .1 i b))
 
 pub shallow-tidy : (n : ℕ) (t : Tree) → Shallow n t → Tidy n t
 shallow-tidy n (leaf c) s = tt
@@ -123,7 +120,8 @@ tidy-zero (branch g f) d =
 
 down-sum : (h : ℕ → ℕ) (n : ℕ) (f : ℕ → Tree) (free : List ℕ)
     → ((i : ℕ) (x : List ℕ) → sumGroups h (cleanTree (f i)) + sumOver h (freedBy (f i) x) ≡ sumGroups h (f i) + sumOver h x)
-    → sumBelow n (λ i. sumGroups h (cleanTree (f i))) + sumOver h (downFrom n (λ i x. freedBy (f i) x) free) ≡ sumBelow n (λ i. sumGroups h (f i)) + sumOver h free
+    → sumBelow n (λ i. sumGroups h (cleanTree (f i))) + sumOver h (downFrom n (λ i x. freedBy (f i) x) free)
+    ≡ sumBelow n (λ i. sumGroups h (f i)) + sumOver h free
 down-sum h zero f free ih = omega arith
 down-sum h (suc n) f free ih = omega (arith, down-sum h n f (freedBy (f n) free) ih, ih n free)
 
@@ -131,23 +129,12 @@ pub clean-groups : (h : ℕ → ℕ) (t : Tree) (free : List ℕ) → sumGroups 
 clean-groups h (leaf c) free = refl
 clean-groups h (branch g f) free =
     byBool (allEmpty f)
-    (λ e. rw e (omega (arith, sumBelow-zero 5 (λ i. sumGroups h (f i)) (λ i b. ap (sumGroups h) (children-empty f (zero-is (sumBelow 5 (λ i. busy (f i))) e) i b)))))
+    (λ e. rw e (omega (arith, sumBelow-zero 5 (λ i. sumGroups h (f i)) (λ i b. ap (sumGroups h) (children-empty f (zero-is _ e) i b)))))
     (λ e. rw e (omega (arith, down-sum h 5 f free (λ i x. clean-groups h (f i) x))))
 
 pub clean-all : (P : Placed → Type 0) (t : Tree) → AllDots P t → AllDots P (cleanTree t)
 clean-all P (leaf c) a = a
 clean-all P (branch g f) a = byBool (allEmpty f) (λ e. rw e tt) (λ e. rw e (λ i b. clean-all P (f i) (a i b)))
-
-pub clean-shallow : (n : ℕ) (t : Tree) → Shallow n t → Shallow n (cleanTree t)
-clean-shallow n (leaf c) s = tt
-clean-shallow zero (branch g f) s = absurd s
-clean-shallow (suc n) (branch g f) s = byBool (allEmpty f) (λ e. rw e tt) (λ e. rw e (λ i b. clean-shallow n (f i) (s i b)))
-
-pub clean-routed : (c : NodeData) (t : Tree) → Routed c t → Routed c (cleanTree t)
-clean-routed c (leaf ds) r = tt
-clean-routed c (branch g f) r =
-    byBool (allEmpty f) (λ e. rw e tt)
-    (λ e. rw e (λ i b. (clean-all (λ d. routeDot c d ≡ i) (f i) (r i b .0), clean-routed (childData c i) (f i) (r i b .1))))
 
 pub clean-tidy : (t : Tree) → Clean t → Tidy 0 t
 clean-tidy (leaf c) k = tt
@@ -159,4 +146,7 @@ module _ (S : Settings) where
   clean-valid c (branch g f) v =
       byBool (allEmpty f)
       (λ e. rw e (tt, λ m. omega arith))
-      (λ e. rw e (v .0, λ i b. (clean-all (λ d. routeDot c d ≡ i) (f i) (v .1 i b .0), clean-valid (childData c i) (f i) (v .1 i b .1)), λ i b. ap cleanTree (v .2 i b)))
+      (λ e.
+      let child : (i : ℕ) → i < 5 → AllDots (λ d. routeDot c d ≡ i) (cleanTree (f i)) × WellFormed S (childData c i) (cleanTree (f i)) =
+      λ i b. (clean-all (λ d. routeDot c d ≡ i) (f i) (v .1 i b .0), clean-valid (childData c i) (f i) (v .1 i b .1)) in
+      rw e (v .0, child, λ i b. ap cleanTree (v .2 i b)))

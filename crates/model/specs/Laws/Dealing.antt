@@ -6,7 +6,8 @@ use lib.Dec.{eqb}
 use borrow.Author.Tests.{eqb-true, eqb-false}
 use Rattle.arithmetic.specs.Tests.{byBool}
 use Rattle.geometry.specs.declared.node_data.NodeData.{NodeData}
-use Rattle.model.specs.Sums.{changed, changed-same, changed-other}
+use Rattle.model.specs.Sums.{changed}
+use Rattle.model.specs.Laws.Sums.{changed-same, changed-other}
 use Rattle.model.specs.Lists.{filter}
 use Rattle.model.specs.Trees.{Placed}
 use Rattle.model.specs.Insert.{routeDot, deal}

@@ -1,4 +1,4 @@
--- THE PROOF OF DEMAND 3. Idea: along a run the memory stays a tree (`Inv .holds`), and every weight sums to the same over its dots and over the book
+-- THE PROOF OF Demand3 (§12). Idea: along a run the memory stays a tree (`Inv .holds`), and every weight sums to the same over its dots and over the book
 -- (`Inv .same`); so what the query, the remove and the size of the tree say, the book says. After the list, quiet calls change the tree by cleanups alone.
 --     Inv, step-inv, run-inv       the invariant, kept by a call and by a list of calls
 --     quiet-run    what quiet calls keep, and what D cleanups among them bring about
@@ -16,13 +16,15 @@ use lib.Seq.{take-append-seam}
 use lib.Dec.{ltb}
 use Rattle.geometry.specs.declared.aabb.AABB.{AABB}
 use Rattle.geometry.specs.declared.settings.Settings.{Settings}
-use Rattle.model.specs.Sums.{indicator, indicator-same, indicator-other, indicator-le, sumOver, sumOver-one, byDec}
+use Rattle.model.specs.Sums.{indicator, sumOver}
+use Rattle.model.specs.Laws.Sums.{indicator-same, indicator-other, indicator-le, sumOver-one, byDec, sumOver-map}
 use Rattle.model.specs.Lists.{count}
 use Rattle.arithmetic.specs.Tests.{byBool, true-false}
 use Rattle.model.specs.declared.Dot.{Dot}
 use Rattle.model.specs.Dots.{isHit}
 use Rattle.geometry.specs.Settings.{D}
-use Rattle.model.specs.Trees.{Placed, sumDots, dots, sumDots-dots, size}
+use Rattle.model.specs.Trees.{Placed, sumDots, size}
+use Rattle.model.specs.Laws.Trees.{dots, sumDots-dots}
 use Rattle.model.specs.Query.{hits}
 use Rattle.model.specs.Cleanup.{isZero, turned}
 use Rattle.model.specs.Remove.{removeSays, removeAt}
@@ -30,17 +32,21 @@ use Rattle.model.specs.Shapes.{Shape, Valid, fresh, inserted, removed, f
 use Rattle.model.specs.Layout.{World, groupsOf, placesOf, Holds}
 use Rattle.model.specs.declared.answers.Found.{Found}
 use Rattle.model.specs.Calls.{Reply, refused, tooMany, answered, Make, Cleanup, Query}
-use Rattle.model.specs.Book.{Event, insert, remove, cleanup, query, Happens, Run, accepted, saidYes, without, entered, bookAfter, book, Has, Live, Fine, DistinctFrom, Quiet, cleanups, meeting, Exactly, Promise, Demand3}
+use Rattle.model.specs.Book.{Event, insert, remove, cleanup, query, Happens, Run, accepted, saidYes, without, entered, bookAfter}
+use Rattle.model.specs.Book.{book, Has, Live, Fine, DistinctFrom, Quiet, cleanups, meeting, Exactly, Promise, Demand3}
 use borrow.Author.Tests.{leb-true}
 use Rattle.model.specs.Laws.Query.{hits-filter, opened-le, Clean, branches-le}
 use Rattle.model.specs.Laws.Cleanup.{clean-sum, no-clean, clean-no, Tidy, tidy-suc, shallow-tidy, tidy-clean, tidy-zero, clean-tidy}
 use Rattle.model.specs.Laws.Insert.{insert-sum}
 use borrow.Author.Tests.{eq-eqb}
 use Rattle.model.specs.Laws.Remove.{found-gone, found-live}
-use Rattle.model.specs.Laws.Shapes.{sumOver-map, valid-height, shape-routed}
+use Rattle.model.specs.Laws.Shapes.{valid-height, shape-routed}
 use Rattle.model.specs.Laws.Runs.{made-holds}
-use Rattle.model.specs.Laws.Book.{onDot, idIs, dotIs, but, without-sum, without-le, but-tree, sum-filter, dead-count, has-dot, has-hit, hit-has, meeting-le}
-use Rattle.model.specs.Laws.Calls.{insert-cases, insert-refused, insert-accepted, remove-no, remove-yes, cleanup-done, query-short, query-done, query-holds}
+use Rattle.model.specs.Laws.Book.{but, without-sum, without-le, but-tree, dead-count, has-dot, has-hit, hit-has, meeting-le}
+use Rattle.model.specs.Laws.Dots.{onDot, idIs, dotIs}
+use Rattle.model.specs.Laws.Lists.{sum-filter}
+use Rattle.model.specs.Laws.Calls.{insert-cases, insert-refused, insert-accepted, remove-no, remove-yes}
+use Rattle.model.specs.Laws.Calls.{cleanup-done, query-short, query-done, query-holds}
 
 -- ---- the invariant of a run
 
@@ -62,13 +68,14 @@ inserted-inv : (s : Settings) (w v : World) (b : List Dot) (dot : Dot) (I : Inv 
 unfolding inserted
 inserted-inv s w v b dot I hv z =
     let x = I .x in
+    let s′ = x .settings in
     let d = placedIn dot x in
     let id = dot .id in
     record {
       x = inserted dot x;
       holds = hv;
       settings = I .settings;
-      same = λ h. omega (arith, I .same h, insert-sum (x .settings) (onDot h) (D (x .settings)) (root x) d (x .tree) (x .freeGroups) (valid-height x (I .holds .valid)));
+      same = λ h. omega (arith, I .same h, insert-sum s′ (onDot h) (D s′) (root x) d (x .tree) (x .freeGroups) (valid-height x (I .holds .valid)));
       once = λ k.
           byDec (ℕ-discrete k id)
           (λ e. omega (arith, ap (λ (y : ℕ). sumOver (idIs y) b) e, indicator-le k id))
@@ -170,18 +177,14 @@ no-cleans : (x : Shape) → Clean (x .tree) → cleans x ≡ false
 unfolding cleans
 no-cleans x c = ap (λ (n : ℕ). not (isZero n)) (clean-no (x .tree) c)
 
-says : Reply Bool → Bool
-says (refused k) = false
-says (tooMany n) = false
-says (answered b) = b
-
 opensOf : Reply Found → ℕ
 opensOf (refused k) = 0
 opensOf (tooMany n) = 0
 opensOf (answered a) = a .opened
 
 -- every weight on ids sums to the same over the listed ids and over the live ones that intersect
-listed-sum : (s : Settings) (w : World) (b : List Dot) (I : Inv s w b) (q : AABB) (g : ℕ → ℕ) → sumOver g (listed q (I .x)) ≡ sumOver (λ d. g (d .id)) (meeting q b)
+listed-sum : (s : Settings) (w : World) (b : List Dot) (I : Inv s w b) (q : AABB) (g : ℕ → ℕ)
+    → sumOver g (listed q (I .x)) ≡ sumOver (λ d. g (d .id)) (meeting q b)
 unfolding listed
 listed-sum s w b I q g =
     let x = I .x in
@@ -202,7 +205,8 @@ inv-exactly s w b I q =
       allThose = λ d h i. omega (arith, sum (d .id), has-hit q d b h i);
     }
 
-inv-lists : (s : Settings) (w : World) (b : List Dot) → Inv s w b → (q : AABB) (row row′ : List ℕ) (w′ : World) (reply : Reply Found) → Query w q row w′ row′ reply
+inv-lists : (s : Settings) (w : World) (b : List Dot) → Inv s w b → (q : AABB) (row row′ : List ℕ) (w′ : World) (reply : Reply Found)
+    → Query w q row w′ row′ reply
     → length (meeting q b) ≤ length row → (a : Found) × (reply ≡ answered a) × Exactly q b (take (a .hits) row′)
 inv-lists s w b I q row row′ w′ reply call long =
     let x = I .x in
@@ -244,9 +248,10 @@ few s n q x v k t =
       mul-assoc 5 (D s) n,
     )
 
-inv-opens : (s : Settings) (w : World) (b : List Dot) → Inv s w b → (es fs : List Event) (v w′ : World) → Run w (es ++ cleanup (answered false) ∷ fs) v → Quiet es → Quiet fs
+inv-opens : (s : Settings) (w : World) (b : List Dot) → Inv s w b → (es fs : List Event) (v w′ : World)
+    → Run w (es ++ cleanup (answered false) ∷ fs) v → Quiet es → Quiet fs
     → (q : AABB) (row row′ : List ℕ) (a : Found) → Query v q row w′ row′ (answered a) → a .opened ≤ 1 + 5 * D s * length b
-unfolding says opensOf
+unfolding opensOf
 inv-opens s w b I es fs v w′ run qe qf q row row′ a call =
     let n = length b in
     let start : Kept s n (I .x) = record { settings = I .settings; sized = I .same (λ d. 1) ∙ sumOver-one b } in
@@ -255,7 +260,7 @@ inv-opens s w b I es fs v w′ run qe qf q row row′ a call =
     let before = quiet-run Q (λ k x p. kept-cleaned s n x p) (λ x p. kept-cleaned s n x p) 0 w es (r .0) (I .x) (r .1) qe (I .holds) start (omega arith) in
     let y = before .0 in
     let done = cleanup-done (r .0) (r .2 .0) (answered false) (r .2 .1) y (before .1) in
-    let clean = clean-tidy (y .tree) (cleans-no y (sym (ap says (done .1)))) in
+    let clean = clean-tidy (y .tree) (cleans-no y (sym (ap saidYes (done .1)))) in
     let R : ℕ → Shape → Type 0 = λ k x. Kept s n x × Tidy 0 (x .tree) in
     let keep : (x : Shape) → Kept s n x × Tidy 0 (x .tree) → Kept s n (cleaned x) × Tidy 0 (cleaned x .tree) =
     λ x p. (kept-cleaned s n x (p .0), tidy-stay x (p .1)) in
@@ -269,11 +274,13 @@ inv-opens s w b I es fs v w′ run qe qf q row row′ a call =
     never : {X : Type 0} {a : Found} {n : ℕ} → answered a ≡ tooMany n → X
     never p = true-false (ap accepted p)
 
-inv-cleanups : (s : Settings) (w : World) (b : List Dot) → Inv s w b → (es : List Event) (v w′ : World) (reply : Reply Bool) → Run w es v → Quiet es → D s ≤ cleanups es
+inv-cleanups : (s : Settings) (w : World) (b : List Dot) → Inv s w b → (es : List Event) (v w′ : World) (reply : Reply Bool) → Run w es v → Quiet es
+    → D s ≤ cleanups es
     → Cleanup v w′ reply → reply ≡ answered false
 inv-cleanups s w b I es v w′ reply run quiet enough call =
     let x = I .x in
-    let high : Tidy (D s) (x .tree) = subst (λ (y : Settings). Tidy (D y) (x .tree)) (I .settings) (shallow-tidy (D (x .settings)) (x .tree) (valid-height x (I .holds .valid))) in
+    let low = shallow-tidy (D (x .settings)) (x .tree) (valid-height x (I .holds .valid)) in
+    let high : Tidy (D s) (x .tree) = subst (λ (y : Settings). Tidy (D y) (x .tree)) (I .settings) low in
     let after = quiet-run (λ n x. Tidy n (x .tree)) tidy-down tidy-stay (D s) w es v x run quiet (I .holds) high enough in
     let y = after .0 in
     cleanup-done v w′ reply call y (after .1) .1 ∙ ap answered (no-cleans y (tidy-zero (y .tree) (after .2)))
@@ -308,7 +315,14 @@ inv-promise s w b I =
 
 made-inv : (lent : World) (s : Settings) (start : World) → Make lent s start (answered tt) → Inv s start []
 unfolding fresh
-made-inv lent s start m = record { x = fresh s (groupsOf lent) (placesOf lent); holds = made-holds lent s start m; settings = refl; same = λ h. refl; once = λ k. omega arith }
+made-inv lent s start m =
+    record {
+      x = fresh s (groupsOf lent) (placesOf lent);
+      holds = made-holds lent s start m;
+      settings = refl;
+      same = λ h. refl;
+      once = λ k. omega arith;
+    }
 
 -- THE THEOREM
 pub demand-3 : Demand3

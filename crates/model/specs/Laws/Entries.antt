@@ -12,18 +12,23 @@ use native.Mathlib.Omega.{arith}
 use lib.Dec.{eqb}
 use lib.ListN.{length, getD, List·getD-append}
 use lib.Seq.{getD-append-add}
-use Rattle.model.specs.Sums.{indicator, indicator-same, indicator-other, sumOver, sumOver-append, sumBelow, sumBelow-ext, sumBelow-add, sumBelow-zero, sumBelow-only, byDec}
-use Rattle.model.specs.Lists.{joinBelow, length-joinBelow, sumOver-joinBelow, All, count}
-use Rattle.arithmetic.specs.Tests.{byBool, true-false}
+use Rattle.model.specs.Sums.{indicator, sumOver, sumBelow}
+use Rattle.model.specs.Laws.Sums.{indicator-same, indicator-other, sumOver-append, sumBelow-ext}
+use Rattle.model.specs.Laws.Sums.{sumBelow-add, sumBelow-zero, sumBelow-only, byDec, sumOver-map}
+use Rattle.model.specs.Lists.{joinBelow, All, count}
+use Rattle.model.specs.Laws.Lists.{length-joinBelow, sumOver-joinBelow}
+use Rattle.arithmetic.specs.Tests.{byBool}
 use Rattle.model.specs.Trees.{Placed, Tree, leaf, branch, childNode, groupCount, placeCount, atPlace}
 use Rattle.model.specs.Shapes.{Shape, Valid, below}
-use Rattle.model.specs.Layout.{none, firstNode, NodeEntry, PlaceEntry, treeNodes, freeGroupNodes, chainPlaces, treePlaces, blank, nodeEntries, placeEntries}
-use borrow.Author.Tests.{eqb-true, eq-eqb}
-use Rattle.model.specs.Laws.Shapes.{below-yes, below-no, below-le, sumOver-map}
+use Rattle.model.specs.Layout.{none, firstNode, NodeEntry, PlaceEntry, treeNodes, freeGroupNodes}
+use Rattle.model.specs.Layout.{chainPlaces, treePlaces, blank, nodeEntries, placeEntries}
+use borrow.Author.Tests.{eqb-true, eqb-false, eq-eqb}
+use Rattle.model.specs.Laws.Shapes.{below-yes, below-no, below-le}
 
 -- ---- a word of a row that is joined from short rows of m words each
 
-pub getD-joinBelow : {A : Type 0} (m n : ℕ) (f : ℕ → List A) → ((i : ℕ) → length (f i) ≡ m) → (k j : ℕ) (z : A) → k < n → j < m → getD (joinBelow n f) (m * k + j) z ≡ getD (f k) j z
+pub getD-joinBelow : {A : Type 0} (m n : ℕ) (f : ℕ → List A) → ((i : ℕ) → length (f i) ≡ m) → (k j : ℕ) (z : A) → k < n → j < m
+    → getD (joinBelow n f) (m * k + j) z ≡ getD (f k) j z
 getD-joinBelow m zero f e k j z b c = absurd (omega arith)
 getD-joinBelow m (suc n) f e k j z b c =
     let l = length-joinBelow n m f e ∙ mul-comm n m in
@@ -46,12 +51,14 @@ nodeIs k e = indicator k (e .node)
 abbrev pub placeIs : ℕ → PlaceEntry → ℕ
 placeIs k e = indicator k (e .place)
 
-module _ {E A : Type 0} (key : E → ℕ) (value : E → A) (find : List E → ℕ → A) (find-cons : (e : E) (es : List E) (k : ℕ) → find (e ∷ es) k ≡ cond (eqb k (key e)) (value e) (find es k)) where
+module _ {E A : Type 0} (key : E → ℕ) (value : E → A) (find : List E → ℕ → A)
+    (find-cons : (e : E) (es : List E) (k : ℕ) → find (e ∷ es) k ≡ cond (eqb k (key e)) (value e) (find es k)) where
   abbrev pub Counted : ℕ → List E → ℕ
   Counted k es = sumOver (λ e. indicator k (key e)) es
 
   -- where no number stands twice, each entry is the one that is found by its number
-  pub found : (es : List E) → ((k : ℕ) → Counted k es ≤ 1) → (fs : List E) → ((k : ℕ) → Counted k fs ≤ Counted k es) → ((k : ℕ) → 1 ≤ Counted k fs → find es k ≡ find fs k)
+  pub found : (es : List E) → ((k : ℕ) → Counted k es ≤ 1) → (fs : List E) → ((k : ℕ) → Counted k fs ≤ Counted k es)
+      → ((k : ℕ) → 1 ≤ Counted k fs → find es k ≡ find fs k)
       → All (λ e. (find es (key e) ≡ value e) × (1 ≤ Counted (key e) es)) fs
   found es once [] part same = tt
   found es once (e ∷ fs) part same =
@@ -60,7 +67,8 @@ module _ {E A : Type 0} (key : E → ℕ) (value : E → A) (find : List E → �
         found es once fs (λ k. omega (arith, part k))
             (λ k c.
             let ne : eqb k (key e) ≡ false =
-            byBool (eqb k (key e)) (λ t. absurd (omega (arith, once k, part k, ap (λ (y : ℕ). indicator k y) (sym (eqb-true k (key e) t)), indicator-same k))) (λ f. f) in
+            byBool (eqb k (key e))
+            (λ t. absurd (omega (arith, once k, part k, ap (indicator k) (sym (eqb-true k (key e) t)), indicator-same k))) (λ f. f) in
             same k (omega arith) ∙ find-cons e fs k ∙ rw ne refl),
       )
 
@@ -73,7 +81,7 @@ module _ {E A : Type 0} (key : E → ℕ) (value : E → A) (find : List E → �
   finds at (e ∷ es) a k c =
       byBool (eqb k (key e))
       (λ t. find-cons e es k ∙ rw t (sym (a .0) ∙ ap at (sym (eqb-true k (key e) t))))
-      (λ t. find-cons e es k ∙ rw t (finds at es (a .1) k (omega (arith, indicator-other k (key e) (λ x. true-false (sym (ap (λ (y : ℕ). eqb k y) (sym x) ∙ eq-eqb k k refl) ∙ t))))))
+      (λ t. find-cons e es k ∙ rw t (finds at es (a .1) k (omega (arith, indicator-other k (key e) (eqb-false k (key e) t)))))
 
 -- ---- each number stands once
 
@@ -82,8 +90,11 @@ children-once q r g b =
     byDec (ℕ-discrete q g)
     (λ e.
     sumBelow-only 5 (λ i. indicator (childNode q r) (childNode g i)) r b (λ j jb ne. indicator-other (childNode q r) (childNode g j) (λ x. ne (omega arith)))
-    ∙ ap (λ (y : ℕ). indicator (childNode q r) (childNode y r)) (sym e) ∙ indicator-same (childNode q r) ∙ sym (ap (λ (y : ℕ). indicator q y) (sym e) ∙ indicator-same q))
-    (λ ne. sumBelow-zero 5 (λ i. indicator (childNode q r) (childNode g i)) (λ j jb. indicator-other (childNode q r) (childNode g j) (λ x. ne (omega arith))) ∙ sym (indicator-other q g ne))
+    ∙ ap (λ (y : ℕ). indicator (childNode q r) (childNode y r)) (sym e) ∙ indicator-same (childNode q r)
+    ∙ sym (ap (indicator q) (sym e) ∙ indicator-same q))
+    (λ ne.
+    sumBelow-zero 5 (λ i. indicator (childNode q r) (childNode g i)) (λ j jb. indicator-other (childNode q r) (childNode g j) (λ x. ne (omega arith)))
+    ∙ sym (indicator-other q g ne))
 
 pub tree-nodes : (q r a : ℕ) (t : Tree) → r < 5 → sumOver (nodeIs (childNode q r)) (treeNodes a t) ≡ indicator (childNode q r) a + groupCount q t
 tree-nodes q r a (leaf c) b = omega arith
@@ -92,7 +103,8 @@ tree-nodes q r a (branch g f) b =
     omega (
       arith,
       sumOver-joinBelow (nodeIs k) 5 (λ i. treeNodes (childNode g i) (f i)),
-      sumBelow-ext 5 (λ i. sumOver (nodeIs k) (treeNodes (childNode g i) (f i))) (λ i. indicator k (childNode g i) + groupCount q (f i)) (λ i ib. tree-nodes q r (childNode g i) (f i) b),
+      sumBelow-ext 5 (λ i. sumOver (nodeIs k) (treeNodes (childNode g i) (f i))) (λ i. indicator k (childNode g i) + groupCount q (f i))
+          (λ i ib. tree-nodes q r (childNode g i) (f i) b),
       sumBelow-add 5 (λ i. indicator k (childNode g i)) (λ i. groupCount q (f i)),
       children-once q r g b,
     )
@@ -109,7 +121,8 @@ tree-zero a (branch g f) =
 
 -- the five nodes of a free group
 pub group-nodes : (h : NodeEntry → ℕ) (g : ℕ) (gs : List ℕ) → sumOver h (freeGroupNodes (g ∷ gs))
-    ≡ h (record { node = childNode g 0; first = firstNode gs; count = 0 }) + sumBelow 4 (λ i. h (record { node = childNode g (1 + i); first = none; count = 0 })) + sumOver h (freeGroupNodes gs)
+    ≡ h (record { node = childNode g 0; first = firstNode gs; count = 0 })
+    + sumBelow 4 (λ i. h (record { node = childNode g (1 + i); first = none; count = 0 })) + sumOver h (freeGroupNodes gs)
 group-nodes h g gs = omega arith
 
 pub free-nodes : (q r : ℕ) (gs : List ℕ) → r < 5 → sumOver (nodeIs (childNode q r)) (freeGroupNodes gs) ≡ count q gs
@@ -161,7 +174,10 @@ by-node P z c k =
     subst P e (c q r (omega arith)))
 
 pub nodes-once : (x : Shape) → Valid x → (k : ℕ) → sumOver (nodeIs k) (nodeEntries x) ≤ 1
-nodes-once x v = by-node (λ k. sumOver (nodeIs k) (nodeEntries x) ≤ 1) (omega (arith, nodes-zero x)) (λ q r b. omega (arith, nodes-at x v q r b, below-le q (x .groups)))
+nodes-once x v =
+    by-node (λ k. sumOver (nodeIs k) (nodeEntries x) ≤ 1)
+    (omega (arith, nodes-zero x))
+    (λ q r b. omega (arith, nodes-at x v q r b, below-le q (x .groups)))
 
 pub chain-places : (k : ℕ) (ds : List Placed) → sumOver (placeIs k) (chainPlaces ds) ≡ sumOver (atPlace k) ds
 chain-places k [] = refl
@@ -170,7 +186,8 @@ chain-places k (d ∷ ds) = omega (arith, chain-places k ds)
 pub tree-places : (k : ℕ) (t : Tree) → sumOver (placeIs k) (treePlaces t) ≡ placeCount k t
 tree-places k (leaf c) = chain-places k c
 tree-places k (branch g f) =
-    sumOver-joinBelow (placeIs k) 5 (λ i. treePlaces (f i)) ∙ sumBelow-ext 5 (λ i. sumOver (placeIs k) (treePlaces (f i))) (λ i. placeCount k (f i)) (λ i b. tree-places k (f i))
+    sumOver-joinBelow (placeIs k) 5 (λ i. treePlaces (f i))
+    ∙ sumBelow-ext 5 (λ i. sumOver (placeIs k) (treePlaces (f i))) (λ i. placeCount k (f i)) (λ i b. tree-places k (f i))
 
 pub places-at : (x : Shape) → Valid x → (k : ℕ) → sumOver (placeIs k) (placeEntries x) ≡ below k (x .places)
 places-at x v k =

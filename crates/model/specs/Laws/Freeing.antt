@@ -5,12 +5,13 @@
 use mathlib.Core.Path.{_≡_, refl, ap, ap₂, sym, _∙_}
 use mathlib.Core.List.{List, [], _∷_, _++_, map, reverse, reverseAux, reverseAux-append, reverseAux-eq}
 use mathlib.Core.Bool.{Bool, true}
-use Prim.Native.Nat.{ℕ, zero, suc, _+_, _<_}
+use Prim.Native.Nat.{ℕ, zero, suc, _<_}
 use native.Mathlib.Omega.{arith}
 use lib.ListN.{length, length-append}
 use Rattle.arithmetic.specs.Tests.{byBool}
 use Rattle.model.specs.Sums.{sumBelow}
-use Rattle.model.specs.Lists.{filter, filter-append}
+use Rattle.model.specs.Lists.{filter}
+use Rattle.model.specs.Laws.Lists.{filter-append, map-append}
 use Rattle.model.specs.Trees.{Tree, leaf, branch}
 use Rattle.model.specs.Cleanup.{busy, allEmpty, downFrom, freedBy, turned}
 use Rattle.model.specs.Laws.Cleanup.{zero-is, children-empty}
@@ -24,18 +25,14 @@ abbrev pub joinDown {ℓ} : {A : Type ℓ} → ℕ → (ℕ → List A) → List
 joinDown zero f = []
 joinDown (suc n) f = f n ++ joinDown n f
 
--- 'It walks the branches depth first, a branch before its child branches 4 to 1, each with all below it'; child 0 is a leaf
+-- §7.2: the branches in the order in which they are visited; child 0 is a leaf
 abbrev pub visits : Tree → List Visit
 visits (leaf chain) = []
 visits (branch g f) = record { group = g; empty = allEmpty f } ∷ joinDown 5 (λ i. visits (f i))
 
--- 'and turns a branch whose five children are empty at that moment': no child is turned before its parent is looked at
+-- §7.3: those of them that are turned
 abbrev pub turnedOf : List Visit → List ℕ
 turnedOf vs = map (λ v. v .group) (filter (λ v. v .empty) vs)
-
-map-append : {A B : Type 0} (f : A → B) (xs ys : List A) → map f (xs ++ ys) ≡ map f xs ++ map f ys
-map-append f [] ys = refl
-map-append f (x ∷ xs) ys = ap (λ r. f x ∷ r) (map-append f xs ys)
 
 turned-append : (vs ws : List Visit) → turnedOf (vs ++ ws) ≡ turnedOf vs ++ turnedOf ws
 turned-append vs ws =
@@ -65,11 +62,12 @@ freed-onto (branch g f) free =
     (λ e. rw e (ap (λ vs. reverseAux (turnedOf vs) (g ∷ free)) (sym (none-below f e))))
     (λ e. rw e (down-freed 5 f (λ i x. freed-onto (f i) x) free))
 
--- 'A freed group or place goes to the head.'
+-- §2.10: the last group freed is the head
 pub freed-order : (t : Tree) (free : List ℕ) → freedBy t free ≡ reverse (turnedOf (visits t)) ++ free
 freed-order t free = freed-onto t free ∙ reverseAux-eq (turnedOf (visits t)) free
 
-down-count : (n : ℕ) (f : ℕ → Tree) → ((i : ℕ) → turned (f i) ≡ length (turnedOf (visits (f i)))) → sumBelow n (λ i. turned (f i)) ≡ length (turnedOf (joinDown n (λ i. visits (f i))))
+down-count : (n : ℕ) (f : ℕ → Tree) → ((i : ℕ) → turned (f i) ≡ length (turnedOf (visits (f i))))
+    → sumBelow n (λ i. turned (f i)) ≡ length (turnedOf (joinDown n (λ i. visits (f i))))
 down-count zero f ih = refl
 down-count (suc n) f ih =
     let rest = joinDown n (λ i. visits (f i)) in

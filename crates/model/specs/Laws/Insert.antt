@@ -1,29 +1,30 @@
 -- Laws of the insert.
 --     deal-sum     the deal keeps every weight
 --     insert-sum, insert-groups    it adds just its dot; groups move from the free list into the tree
---     insert-shallow, insert-all, insert-routed, insert-valid      what it keeps
+--     insert-all, insert-valid     what it keeps
 --     levels-suffice, valid-shallow        the levels never run out; a well-formed tree is no higher than its node may be split
 --     splitCount, insert-splits    the splits with groups enough; each takes a group
 --     split-count-le       they are no more than the levels
 use mathlib.Core.Path.{_≡_, refl, ap, sym, _∙_, subst}
 use mathlib.Core.List.{List, [], _∷_}
 use mathlib.Core.Bool.{Bool, true, false, not, cond}
-use Prim.Native.Nat.{ℕ, zero, suc, _+_, _-_, _≤_, _<_}
+use Prim.Native.Nat.{ℕ, zero, suc, _+_, _≤_, _<_}
 use native.Mathlib.Omega.{arith}
 use lib.ListN.{length}
 use lib.Dec.{leb, T, nleb→lt}
 use Rattle.geometry.specs.declared.aabb.AABB.{AABB}
 use Rattle.geometry.specs.declared.settings.Settings.{Settings}
 use Rattle.geometry.specs.declared.node_data.NodeData.{NodeData}
-use Rattle.model.specs.Sums.{changed, changed-other, changed-all, sumOver, sumOver-one, sumBelow, sumBelow-term, sumBelow-changed}
+use Rattle.model.specs.Sums.{changed, sumOver, sumBelow}
+use Rattle.model.specs.Laws.Sums.{changed-other, changed-all, sumOver-one, sumBelow-term, sumBelow-changed}
 use Rattle.model.specs.Lists.{All}
+use Rattle.model.specs.Laws.Lists.{all-map}
 use Rattle.arithmetic.specs.Tests.{byBool, true-false}
 use Rattle.model.specs.Trees.{Placed, Tree, leaf, branch, sumDots, sumGroups, AllDots, Shallow}
 use Rattle.model.specs.Dots.{acceptableDot}
 use Rattle.geometry.specs.Cells.{childData, route, maySplit}
 use Rattle.geometry.specs.Laws.Geometry.{route-child, levelsLeft, levels-fall}
 use Rattle.model.specs.Insert.{routeDot, deal, dealt, mustSplit, insertAt}
-use Rattle.model.specs.Laws.Query.{Routed}
 use Rattle.model.specs.Shapes.{WellFormed}
 
 pub deal-sum : (c : NodeData) (h : Placed → ℕ) (acc : ℕ → List Placed) (ds : List Placed)
@@ -55,7 +56,8 @@ module _ (S : Settings) where
   splitCount (suc levels) n r (branch g f) = let i = route n r in splitCount levels (childData n i) r (f i)
 
 module _ (S : Settings) where
-  pub insert-sum : (h : Placed → ℕ) (n : ℕ) (c : NodeData) (d : Placed) (t : Tree) (free : List ℕ) → Shallow n t → sumDots h (insertAt S n c d t free .tree) ≡ h d + sumDots h t
+  pub insert-sum : (h : Placed → ℕ) (n : ℕ) (c : NodeData) (d : Placed) (t : Tree) (free : List ℕ) → Shallow n t
+      → sumDots h (insertAt S n c d t free .tree) ≡ h d + sumDots h t
   insert-sum h zero c d (leaf ds) free s = refl
   insert-sum h zero c d (branch g f) free s = absurd s
   insert-sum h (suc n) c d (leaf ds) [] s = refl
@@ -101,22 +103,6 @@ module _ (S : Settings) where
         insert-groups h n (childData c i) d (f i) free,
       )
 
-  pub insert-shallow : (n : ℕ) (c : NodeData) (d : Placed) (t : Tree) (free : List ℕ) → Shallow n t → Shallow n (insertAt S n c d t free .tree)
-  insert-shallow zero c d (leaf ds) free s = tt
-  insert-shallow zero c d (branch g f) free s = s
-  insert-shallow (suc n) c d (leaf ds) [] s = tt
-  insert-shallow (suc n) c d (leaf ds) (g ∷ free) s =
-      let i = routeDot c d in
-      byBool (mustSplit S c ds)
-      (λ e. rw e (λ j b.
-      changed-all (λ (j : ℕ) (x : Tree). Shallow n x) (dealt c ds) i (insertAt S n (childData c i) d (dealt c ds i) free .tree) j
-      (λ x. insert-shallow n (childData c i) d (dealt c ds i) free tt) (λ x. tt)))
-      (λ e. rw e tt)
-  insert-shallow (suc n) c d (branch g f) free s =
-      let i = routeDot c d in
-      λ j b. changed-all (λ (j : ℕ) (x : Tree). Shallow n x) f i (insertAt S n (childData c i) d (f i) free .tree) j
-      (λ x. insert-shallow n (childData c i) d (f i) free (s i (route-child c (d .dot .rect)))) (λ x. s j b)
-
   -- the deal sends each dot to its child, and keeps what holds of every dot
   deal-all : (P : Placed → Type 0) (c : NodeData) (acc : ℕ → List Placed) (ds : List Placed) → All P ds
       → ((j : ℕ) → All (λ d. P d × (routeDot c d ≡ j)) (acc j)) → (j : ℕ) → All (λ d. P d × (routeDot c d ≡ j)) (deal c acc ds j)
@@ -128,25 +114,20 @@ module _ (S : Settings) where
       (λ e. subst (λ (y : ℕ). All (λ d. P d × (routeDot c d ≡ y)) (d ∷ acc i)) (sym e) ((a .0, refl), r i))
       (λ ne. r j))
 
-  all-left : (P Q : Placed → Type 0) (ds : List Placed) → All (λ d. P d × Q d) ds → All P ds
-  all-left P Q [] a = tt
-  all-left P Q (d ∷ ds) a = (a .0 .0, all-left P Q ds (a .1))
-
-  all-right : (P Q : Placed → Type 0) (ds : List Placed) → All (λ d. P d × Q d) ds → All Q ds
-  all-right P Q [] a = tt
-  all-right P Q (d ∷ ds) a = (a .0 .1, all-right P Q ds (a .1))
-
   all-unit : (ds : List Placed) → All (λ d. Unit {0}) ds
   all-unit [] = tt
   all-unit (d ∷ ds) = (tt, all-unit ds)
 
   pub dealt-all : (P : Placed → Type 0) (c : NodeData) (ds : List Placed) → All P ds → (j : ℕ) → All P (deal c (λ j. []) ds j)
-  dealt-all P c ds a j = all-left P (λ d. routeDot c d ≡ j) (deal c (λ j. []) ds j) (deal-all P c (λ j. []) ds a (λ i. tt) j)
+  dealt-all P c ds a j = all-map (λ d. P d × (routeDot c d ≡ j)) P (λ d p. p .0) (deal c (λ j. []) ds j) (deal-all P c (λ j. []) ds a (λ i. tt) j)
 
   pub dealt-routed : (c : NodeData) (ds : List Placed) (j : ℕ) → All (λ d. routeDot c d ≡ j) (deal c (λ j. []) ds j)
-  dealt-routed c ds j = all-right (λ d. Unit {0}) (λ d. routeDot c d ≡ j) (deal c (λ j. []) ds j) (deal-all (λ d. Unit {0}) c (λ j. []) ds (all-unit ds) (λ i. tt) j)
+  dealt-routed c ds j =
+      all-map (λ d. Unit {0} × (routeDot c d ≡ j)) (λ d. routeDot c d ≡ j) (λ d p. p .1) (deal c (λ j. []) ds j)
+      (deal-all (λ d. Unit {0}) c (λ j. []) ds (all-unit ds) (λ i. tt) j)
 
-  pub insert-all : (P : Placed → Type 0) (n : ℕ) (c : NodeData) (d : Placed) (t : Tree) (free : List ℕ) → P d → AllDots P t → AllDots P (insertAt S n c d t free .tree)
+  pub insert-all : (P : Placed → Type 0) (n : ℕ) (c : NodeData) (d : Placed) (t : Tree) (free : List ℕ) → P d → AllDots P t
+      → AllDots P (insertAt S n c d t free .tree)
   insert-all P zero c d (leaf ds) free p a = (p, a)
   insert-all P zero c d (branch g f) free p a = a
   insert-all P (suc n) c d (leaf ds) [] p a = (p, a)
@@ -162,34 +143,7 @@ module _ (S : Settings) where
       λ j b. changed-all (λ (j : ℕ) (x : Tree). AllDots P x) f i (insertAt S n (childData c i) d (f i) free .tree) j
       (λ x. insert-all P n (childData c i) d (f i) free p (a i (route-child c (d .dot .rect)))) (λ x. a j b)
 
-  pub insert-routed : (n : ℕ) (c : NodeData) (d : Placed) (t : Tree) (free : List ℕ) → Routed c t → Routed c (insertAt S n c d t free .tree)
-  insert-routed zero c d (leaf ds) free r = tt
-  insert-routed zero c d (branch g f) free r = r
-  insert-routed (suc n) c d (leaf ds) [] r = tt
-  insert-routed (suc n) c d (leaf ds) (g ∷ free) r =
-      let i = routeDot c d in
-      byBool (mustSplit S c ds)
-      (λ e. rw e (λ j b.
-      changed-all (λ (j : ℕ) (x : Tree). AllDots (λ d. routeDot c d ≡ j) x × Routed (childData c j) x) (dealt c ds) i (insertAt S n (childData c i) d (dealt c ds i) free .tree) j
-      (λ x. subst (λ (y : ℕ). AllDots (λ d. routeDot c d ≡ y) (insertAt S n (childData c i) d (dealt c ds i) free .tree) × Routed (childData c y) (insertAt S n (childData c i) d (dealt c ds i) free .tree)) (sym x)
-      (insert-all (λ d. routeDot c d ≡ i) n (childData c i) d (dealt c ds i) free refl (dealt-routed c ds i), insert-routed n (childData c i) d (dealt c ds i) free tt))
-      (λ x. (dealt-routed c ds j, tt))))
-      (λ e. rw e tt)
-  insert-routed (suc n) c d (branch g f) free r =
-      let i = routeDot c d in
-      let ib = route-child c (d .dot .rect) in
-      λ j b. changed-all (λ (j : ℕ) (x : Tree). AllDots (λ d. routeDot c d ≡ j) x × Routed (childData c j) x) f i (insertAt S n (childData c i) d (f i) free .tree) j
-      (λ x. subst (λ (y : ℕ). AllDots (λ d. routeDot c d ≡ y) (insertAt S n (childData c i) d (f i) free .tree) × Routed (childData c y) (insertAt S n (childData c i) d (f i) free .tree)) (sym x)
-      (insert-all (λ d. routeDot c d ≡ i) n (childData c i) d (f i) free refl (r i ib .0), insert-routed n (childData c i) d (f i) free (r i ib .1)))
-      (λ x. r j b)
-
   module _ (one : 1 ≤ S .«smallest_cell») where
-    shallow-le : (n k : ℕ) (t : Tree) → n ≤ k → Shallow n t → Shallow k t
-    shallow-le n k (leaf c) l s = tt
-    shallow-le zero k (branch g f) l s = absurd s
-    shallow-le (suc n) zero (branch g f) l s = absurd (omega arith)
-    shallow-le (suc n) (suc k) (branch g f) l s = λ i b. shallow-le n k (f i) (omega arith) (s i b)
-
     -- a valid tree is no higher than its cell may be split
     pub valid-shallow : (n : ℕ) (c : NodeData) (t : Tree) → levelsLeft S c ≤ n → WellFormed S c t → Shallow n t
     valid-shallow n c (leaf ds) l v = tt
@@ -221,7 +175,8 @@ module _ (S : Settings) where
     child-valid : (c e : NodeData) (ds : List Placed) → maySplit S c ≡ true → WellFormed S c (leaf ds) → (j : ℕ) → j < 5 → WellFormed S e (dealt c ds j)
     child-valid c e ds m v j b = (dealt-all (λ d. acceptableDot S (d .dot) ≡ true) c ds (v .0) j, λ z. omega (arith, child-length c ds j b, v .1 m))
 
-    pub insert-valid : (n : ℕ) (c : NodeData) (d : Placed) (t : Tree) (free : List ℕ) → levelsLeft S c ≤ n → acceptableDot S (d .dot) ≡ true → splitCount S n c (d .dot .rect) t ≤ length free → 1 ≤ S .«leaf_limit»
+    pub insert-valid : (n : ℕ) (c : NodeData) (d : Placed) (t : Tree) (free : List ℕ) → levelsLeft S c ≤ n → acceptableDot S (d .dot) ≡ true
+        → splitCount S n c (d .dot .rect) t ≤ length free → 1 ≤ S .«leaf_limit»
         → WellFormed S c t → WellFormed S c (insertAt S n c d t free .tree)
     insert-valid zero c d (leaf ds) free l f k lim v =
         ((f, v .0), λ m. absurd (omega (arith, levels-fall S one c m 0)))
@@ -268,7 +223,8 @@ module _ (S : Settings) where
 
   -- with that many groups the insert makes just those splits, each on a group that it takes
   pub insert-splits : (n : ℕ) (c : NodeData) (d : Placed) (t : Tree) (free : List ℕ) → splitCount S n c (d .dot .rect) t ≤ length free
-      → (insertAt S n c d t free .splits ≡ splitCount S n c (d .dot .rect) t) × (length (insertAt S n c d t free .free) + splitCount S n c (d .dot .rect) t ≡ length free)
+      → (insertAt S n c d t free .splits ≡ splitCount S n c (d .dot .rect) t)
+      × (length (insertAt S n c d t free .free) + splitCount S n c (d .dot .rect) t ≡ length free)
   insert-splits zero c d (leaf ds) free k = (refl, omega arith)
   insert-splits zero c d (branch g f) free k = (refl, omega arith)
   insert-splits (suc n) c d (leaf ds) [] k = (omega arith, omega arith)

@@ -2,27 +2,22 @@
 --     layout-lengths, holds-lengths, holds-settings        a world that is a tree passes refusals 1 and 2
 --     layout-holds, cleared-holds  what a call leaves is a tree again
 --     obeys-tree   of a call on a tree, the rule says all
-use mathlib.Core.Path.{_≡_, refl, ap, sym, _∙_, subst}
+use mathlib.Core.Path.{_≡_, refl, ap, sym, _∙_}
 use mathlib.Core.List.{List, [], _∷_}
 use mathlib.Core.Bool.{true, _&&_}
 use Prim.Native.Nat.{ℕ, _+_, _*_, _≤_}
 use native.Mathlib.Omega.{arith}
 use lib.ListN.{length, replicate, length-replicate}
-use lib.Dec.{eqb, leb, T, le→leb, eqb-refl}
+use lib.Dec.{eqb, leb}
 use Rattle.arithmetic.specs.Linear.{and-t}
-use borrow.Author.Tests.{leb-true}
-use Rattle.model.specs.Lists.{length-joinBelow}
+use borrow.Author.Tests.{leb-true, le-leb, eq-eqb}
+use Rattle.model.specs.Laws.Lists.{length-joinBelow}
 use Rattle.arithmetic.specs.Tests.{byBool}
 use Rattle.geometry.specs.Settings.{inRange}
 use Rattle.model.specs.Shapes.{Shape, Valid}
-use Rattle.model.specs.Layout.{World, groupsOf, placesOf, nodesRight, dotsRight, marksRight, lengthsRight, NodeEntry, PlaceEntry, nodeEntries, placeEntries, nodeWords, dotWords, placeRect, stateOf, layout, cleared, Holds}
+use Rattle.model.specs.Layout.{World, groupsOf, placesOf, nodesRight, dotsRight, marksRight, lengthsRight, NodeEntry, PlaceEntry}
+use Rattle.model.specs.Layout.{nodeEntries, placeEntries, nodeWords, dotWords, placeRect, stateOf, layout, cleared, Holds}
 use Rattle.model.specs.Calls.{Verdict, Exit, carriedOut, Obeys}
-
-pub eqb-yes : (m n : ℕ) → m ≡ n → eqb m n ≡ true
-eqb-yes m n e = byBool (eqb m n) (λ t. t) (λ f. absurd (subst T (ap (λ (y : ℕ). eqb m y) e ∙ f) (eqb-refl m)))
-
-pub leb-yes : (m n : ℕ) → m ≤ n → leb m n ≡ true
-leb-yes m n h = byBool (leb m n) (λ t. t) (λ f. absurd (subst T f (le→leb m n h)))
 
 -- ---- lengths
 
@@ -61,12 +56,12 @@ right x w v l =
     let g : groupsOf w ≡ x .groups = omega (arith, l .nodes) in
     let p : placesOf w ≡ x .places = omega (arith, l .dots) in
     rw (
-      eqb-yes (length (w .nodes)) (2 * (1 + 5 * groupsOf w)) (omega (arith, l .nodes, g)),
-      leb-yes (groupsOf w) 16384 (omega (arith, g, v .groupsFit)),
-      eqb-yes (length (w .dots)) (2 * placesOf w) (omega (arith, l .dots, p)),
-      leb-yes (placesOf w) 65536 (omega (arith, p, v .placesFit)),
-      eqb-yes (length (w .rects)) (4 * placesOf w) (omega (arith, l .rects, p)),
-      eqb-yes (length (w .marks)) (placesOf w + groupsOf w) (omega (arith, l .marks, p, g)),
+      eq-eqb (length (w .nodes)) (2 * (1 + 5 * groupsOf w)) (omega (arith, l .nodes, g)),
+      le-leb (groupsOf w) 16384 (omega (arith, g, v .groupsFit)),
+      eq-eqb (length (w .dots)) (2 * placesOf w) (omega (arith, l .dots, p)),
+      le-leb (placesOf w) 65536 (omega (arith, p, v .placesFit)),
+      eq-eqb (length (w .rects)) (4 * placesOf w) (omega (arith, l .rects, p)),
+      eq-eqb (length (w .marks)) (placesOf w + groupsOf w) (omega (arith, l .marks, p, g)),
     ) refl
 
 -- G and N are in range where the lengths are of the stated form

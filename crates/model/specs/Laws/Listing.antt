@@ -5,30 +5,27 @@
 --     all-query    all, today, is a query with the root's rectangle
 use mathlib.Core.Path.{_≡_, ap, sym, _∙_}
 use mathlib.Core.Logic.{_↔_}
-use mathlib.Core.List.{List, [], _∷_, map}
-use mathlib.Core.Bool.{Bool}
+use mathlib.Core.List.{List, map}
 use Prim.Native.Nat.{ℕ, _≤_}
 use native.Mathlib.Omega.{arith}
 use lib.ListN.{length}
-use Rattle.arithmetic.specs.Tests.{byBool}
 use Rattle.geometry.specs.declared.aabb.AABB.{AABB}
+use Rattle.geometry.specs.declared.settings.Settings.{Settings}
 use Rattle.geometry.specs.Settings.{rootRect}
-use Rattle.model.specs.Sums.{sumOver, sumOver-one}
-use Rattle.model.specs.Lists.{filter}
+use Rattle.model.specs.Sums.{sumOver}
+use Rattle.model.specs.Laws.Sums.{sumOver-one, sumOver-map}
+use Rattle.model.specs.Laws.Lists.{filter-le}
 use Rattle.model.specs.Dots.{isHit}
-use Rattle.model.specs.Trees.{Placed, atPlace, size, sumDots, dots, sumDots-dots}
+use Rattle.model.specs.Trees.{Placed, atPlace, size, sumDots}
+use Rattle.model.specs.Laws.Trees.{dots, sumDots-dots}
 use Rattle.model.specs.Query.{hits}
 use Rattle.model.specs.Shapes.{Shape, Valid, root, listed, references}
 use Rattle.model.specs.Layout.{World, Holds}
 use Rattle.model.specs.declared.answers.Found.{Found}
-use Rattle.model.specs.Calls.{Reply, carriedOut, queryRule, allRule, Query, All}
+use Rattle.model.specs.Calls.{Reply, Exit, carriedOut, queryRule, allRule, Query, All}
 use Rattle.model.specs.Laws.Query.{hits-filter}
-use Rattle.model.specs.Laws.Shapes.{below-le, sumOver-map, shape-routed}
+use Rattle.model.specs.Laws.Shapes.{below-le, shape-routed}
 use Rattle.model.specs.Laws.Layout.{holds-settings}
-
-filter-le : {A : Type 0} (h : A → ℕ) (p : A → Bool) (xs : List A) → sumOver h (filter p xs) ≤ sumOver h xs
-filter-le h p [] = omega arith
-filter-le h p (x ∷ xs) = byBool (p x) (λ e. rw e (omega (arith, filter-le h p xs))) (λ e. rw e (omega (arith, filter-le h p xs)))
 
 module _ (q : AABB) (x : Shape) (v : Valid x) where
   -- no weight sums to more over the listed dots than over all
@@ -51,18 +48,20 @@ module _ (q : AABB) (x : Shape) (v : Valid x) where
       let found = hits q (root x) (x .tree) in
       omega (arith, sumOver-one (map (λ d. d .dot .id) found), sumOver-map (λ id. 1) (λ (d : Placed). d .dot .id) found, hits-le (λ d. 1))
 
--- 'References: the dots in all leaves'
+-- §9.3: the references are all dots
 pub references-dots : (x : Shape) → references x ≡ length (dots (x .tree))
 unfolding references
 references-dots x = sym (sumDots-dots (λ d. 1) (x .tree)) ∙ sumOver-one (dots (x .tree))
 
--- 'All: a query with the root's rectangle.'
+-- §8.5: all is a query with the root's rectangle
 pub all-query : (w : World) (row : List ℕ) (w′ : World) (row′ : List ℕ) (reply : Reply Found)
     → All w row w′ row′ reply ↔ Query w (rootRect (w .state .settings)) row w′ row′ reply
 unfolding Query All allRule
 all-query w row w′ row′ reply =
-    let same : (x : Shape) → Holds w x → carriedOut w row (queryRule (rootRect (w .state .settings)) (length row) x) ≡ carriedOut w row (queryRule (rootRect (x .settings)) (length row) x) =
-    λ x h. ap (λ t. carriedOut w row (queryRule (rootRect t) (length row) x)) (holds-settings w x h) in (
-      λ all. record { badLength = all .badLength; badSettings = all .badSettings; noTree = all .noTree; tree = λ l s x h. all .tree l s x h ∙ sym (same x h) },
-      λ query. record { badLength = query .badLength; badSettings = query .badSettings; noTree = query .noTree; tree = λ l s x h. query .tree l s x h ∙ same x h },
+    let left : Settings → Shape → Exit ℕ Found = λ s x. carriedOut w row (queryRule (rootRect s) (length row) x) in
+    let same : (x : Shape) → Holds w x → left (w .state .settings) x ≡ left (x .settings) x = λ x h. ap (λ s. left s x) (holds-settings w x h) in (
+      λ all.
+          record { badLength = all .badLength; badSettings = all .badSettings; noTree = all .noTree; tree = λ l s x h. all .tree l s x h ∙ sym (same x h) },
+      λ query.
+          record { badLength = query .badLength; badSettings = query .badSettings; noTree = query .noTree; tree = λ l s x h. query .tree l s x h ∙ same x h },
     )

@@ -14,15 +14,19 @@ use lib.Seq.{ext-getD}
 use Rattle.geometry.specs.declared.aabb.AABB.{AABB}
 use Rattle.model.specs.declared.Dot.{Dot}
 use Rattle.model.specs.declared.State.{State}
-use Rattle.model.specs.Sums.{sumOver, byDec}
-use Rattle.model.specs.Lists.{joinBelow, length-joinBelow, All, all-append, all-joinBelow, all-map, count}
+use Rattle.model.specs.Sums.{sumOver}
+use Rattle.model.specs.Laws.Sums.{byDec}
+use Rattle.model.specs.Lists.{joinBelow, All, count}
+use Rattle.model.specs.Laws.Lists.{length-joinBelow, all-append, all-joinBelow, all-map}
 use Rattle.model.specs.Trees.{Placed, Tree, leaf, branch, childNode}
 use Rattle.model.specs.Shapes.{Shape, Valid}
-use Rattle.model.specs.Layout.{World, none, firstNode, firstDot, NodeEntry, PlaceEntry, treeNodes, freeGroupNodes, chainPlaces, treePlaces, blank, nodeEntries, placeEntries, nodeWords, placeWords, dotWords, rectWords, placeRect, stateOf, layout, cleared, Holds}
+use Rattle.model.specs.Layout.{World, none, firstNode, firstDot, NodeEntry, PlaceEntry, treeNodes, freeGroupNodes, chainPlaces, treePlaces, blank}
+use Rattle.model.specs.Layout.{nodeEntries, placeEntries, nodeWords, placeWords, dotWords, rectWords, placeRect, stateOf, layout, cleared, Holds}
 use Rattle.model.specs.Laws.Shapes.{below-le}
 use Rattle.model.specs.Laws.Layout.{two-node, two-dot, four-rect, layout-lengths, holds-all}
 use Rattle.model.specs.Memory.{Mem, firstAt, countAt, idAt, nextAt, rectAt, dotAt, memory, Chained, Represents, FreeGroups, Represented}
-use Rattle.model.specs.Laws.Entries.{getD-joinBelow, nodeIs, placeIs, each-found, finds, nodes-once, places-at, node-range, node-there, place-range, place-there}
+use Rattle.model.specs.Laws.Entries.{getD-joinBelow, nodeIs, placeIs, each-found, finds, nodes-once}
+use Rattle.model.specs.Laws.Entries.{places-at, node-range, node-there, place-range, place-there}
 
 -- ---- lists of which all have a property
 
@@ -97,7 +101,8 @@ of-chain m h (d ∷ ds) c = let r = of-chain m (m .next (d .place)) ds (c .2) in
 of-tree : (m : Mem) (a : ℕ) (t : Tree) → Represents m a t → All (NodeStands m) (treeNodes a t) × All (PlaceStands m) (treePlaces t)
 of-tree m a (leaf c) r = let x = of-chain m (m .first a) c (r .1) in ((two _ _ _ _ (x .0) (r .0), tt), x .1)
 of-tree m a (branch g f) r =
-    let each : (i : ℕ) → i < 5 → All (NodeStands m) (treeNodes (childNode g i) (f i)) × All (PlaceStands m) (treePlaces (f i)) = λ i b. of-tree m (childNode g i) (f i) (r .2 i b) in (
+    let each : (i : ℕ) → i < 5 → All (NodeStands m) (treeNodes (childNode g i) (f i)) × All (PlaceStands m) (treePlaces (f i)) =
+    λ i b. of-tree m (childNode g i) (f i) (r .2 i b) in (
       (two _ _ _ _ (r .1) (r .0), all-joinBelow (NodeStands m) 5 (λ i. treeNodes (childNode g i) (f i)) (λ i b. each i b .0)),
       all-joinBelow (PlaceStands m) 5 (λ i. treePlaces (f i)) (λ i b. each i b .1),
     )
@@ -118,7 +123,8 @@ of-free m h (g ∷ gs) r =
 -- ---- the layout, read word by word
 
 -- a dot by its words
-dot-words : (w : World) (p : ℕ) (d : Dot) → ((j : ℕ) → j < 4 → getD (w .rects) (4 * p + j) (pos 0) ≡ getD (rectWords (d .rect)) j (pos 0)) → idAt (w .dots) p ≡ d .id
+dot-words : (w : World) (p : ℕ) (d : Dot) → ((j : ℕ) → j < 4 → getD (w .rects) (4 * p + j) (pos 0) ≡ getD (rectWords (d .rect)) j (pos 0))
+    → idAt (w .dots) p ≡ d .id
     → dotAt (w .dots) (w .rects) p ≡ d
 unfolding idAt rectAt
 dot-words w p d r id =
@@ -137,7 +143,8 @@ module _ (x : Shape) (v : Valid x) where
       all-map (λ e. (nodeWords es (e .node) ≡ e .first ∷ e .count ∷ []) × (1 ≤ sumOver (nodeIs (e .node)) es)) (NodeStands (memory (layout x)))
       (λ e p.
       let read : (j : ℕ) → j < 2 → getD row (2 * e .node + j) 0 ≡ getD (e .first ∷ e .count ∷ []) j 0 =
-      λ j b. getD-joinBelow 2 (1 + 5 * x .groups) (nodeWords es) (two-node es) (e .node) j 0 (node-range x v (e .node) (p .1)) b ∙ ap (λ (l : List ℕ). getD l j 0) (p .0) in
+      λ j b. getD-joinBelow 2 (1 + 5 * x .groups) (nodeWords es) (two-node es) (e .node) j 0 (node-range x v (e .node) (p .1)) b
+      ∙ ap (λ (l : List ℕ). getD l j 0) (p .0) in
       two _ _ _ _ (read 0 (omega arith)) (read 1 (omega arith)))
       es
       (each-found (λ e. e .node) (λ e. e .first ∷ e .count ∷ []) nodeWords (λ e es k. refl) es (nodes-once x v))
@@ -245,23 +252,30 @@ represented-holds w x v r =
     let ps = all-append (PlaceStands m) (treePlaces (x .tree)) (chainPlaces (map blank (x .freePlaces))) (t .1) (c .1) in
     let es = nodeEntries x in
     let fs = placeEntries x in
-    let ds = all-map (PlaceStands m) (λ e. placeWords (m .dot (e .place)) (m .next (e .place)) ≡ placeWords (e .dot) (e .next)) (λ e p. two _ _ _ _ (ap (λ (d : Dot). d .id) (p .0)) (p .1)) fs ps in
-    let rs = all-map (PlaceStands m) (λ e. rectWords (m .dot (e .place) .rect) ≡ rectWords (e .dot .rect)) (λ e p. ap (λ (d : Dot). rectWords (d .rect)) (p .0)) fs ps in
+    let node-pair : ℕ → List ℕ = λ k. m .first k ∷ m .count k ∷ [] in
+    let place-pair : ℕ → List ℕ = λ k. placeWords (m .dot k) (m .next k) in
+    let corners : ℕ → List ℤ = λ k. rectWords (m .dot k .rect) in
+    let ds = all-map (PlaceStands m) (λ e. place-pair (e .place) ≡ placeWords (e .dot) (e .next))
+    (λ e p. two _ _ _ _ (ap (λ (d : Dot). d .id) (p .0)) (p .1)) fs ps in
+    let rs = all-map (PlaceStands m) (λ e. corners (e .place) ≡ rectWords (e .dot .rect)) (λ e p. ap (λ (d : Dot). rectWords (d .rect)) (p .0)) fs ps in
     let nodes : w .nodes ≡ joinBelow (1 + 5 * x .groups) (nodeWords es) =
     blocks-equal 0 2 (1 + 5 * x .groups) (w .nodes) (nodeWords es) (omega arith) (omega (arith, r .nodes)) (two-node es)
     (λ k b j jb.
     pair-word (m .first k) (m .count k) (λ j. getD (w .nodes) (2 * k + j) 0) refl refl j jb
-    ∙ sym (ap (λ (l : List ℕ). getD l j 0) (finds (λ e. e .node) (λ e. e .first ∷ e .count ∷ []) nodeWords (λ e es k. refl) (λ k. m .first k ∷ m .count k ∷ []) es ns k (node-there x v k b)))) in
+    ∙ sym (ap (λ (l : List ℕ). getD l j 0)
+    (finds (λ e. e .node) (λ e. e .first ∷ e .count ∷ []) nodeWords (λ e es k. refl) node-pair es ns k (node-there x v k b)))) in
     let dots : w .dots ≡ joinBelow (x .places) (dotWords fs) =
     blocks-equal 0 2 (x .places) (w .dots) (dotWords fs) (omega arith) (r .dots) (two-dot fs)
     (λ k b j jb.
     pair-word (m .dot k .id) (m .next k) (λ j. getD (w .dots) (2 * k + j) 0) refl refl j jb
-    ∙ sym (ap (λ (l : List ℕ). getD l j 0) (finds (λ e. e .place) (λ e. placeWords (e .dot) (e .next)) dotWords (λ e es k. refl) (λ k. placeWords (m .dot k) (m .next k)) fs ds k (place-there x v k b)))) in
+    ∙ sym (ap (λ (l : List ℕ). getD l j 0)
+    (finds (λ e. e .place) (λ e. placeWords (e .dot) (e .next)) dotWords (λ e es k. refl) place-pair fs ds k (place-there x v k b)))) in
     let rects : w .rects ≡ joinBelow (x .places) (placeRect fs) =
     blocks-equal (pos 0) 4 (x .places) (w .rects) (placeRect fs) (omega arith) (r .rects) (four-rect fs)
     (λ k b j jb.
     corner-word (m .dot k .rect) (λ j. getD (w .rects) (4 * k + j) (pos 0)) refl refl refl refl j jb
-    ∙ sym (ap (λ (l : List ℤ). getD l j (pos 0)) (finds (λ e. e .place) (λ e. rectWords (e .dot .rect)) placeRect (λ e es k. refl) (λ k. rectWords (m .dot k .rect)) fs rs k (place-there x v k b)))) in
+    ∙ sym (ap (λ (l : List ℤ). getD l j (pos 0))
+    (finds (λ e. e .place) (λ e. rectWords (e .dot .rect)) placeRect (λ e es k. refl) corners fs rs k (place-there x v k b)))) in
     let marks : replicate {A = ℕ} (length (w .marks)) 0 ≡ replicate (x .places + x .groups) 0 = ap (λ (n : ℕ). replicate {A = ℕ} n 0) (r .marks) in
     let settings = r .settings in
     let live = r .live in

@@ -13,24 +13,23 @@ use lib.ListN.{length}
 use Rattle.arithmetic.specs.Tests.{byBool}
 use Rattle.geometry.specs.declared.aabb.AABB.{AABB}
 use Rattle.geometry.specs.declared.node_data.NodeData.{NodeData}
-use Rattle.geometry.specs.Cells.{childData, opens, bothTests}
-use Rattle.model.specs.Sums.{indicator, indicator-same, indicator-other, indicator-eq, sumOver, sumOver-one, sumOver-append, sumBelow, sumBelow-ext, sumBelow-le, sumBelow-term, sumBelow-some, byDec}
-use Rattle.model.specs.Lists.{joinBelow, count, sumOver-joinBelow}
+use Rattle.geometry.specs.Cells.{childData, opens}
+use Rattle.model.specs.Sums.{indicator, sumOver, sumBelow}
+use Rattle.model.specs.Laws.Sums.{indicator-same, indicator-other, indicator-eq, sumOver-one, sumOver-append}
+use Rattle.model.specs.Laws.Sums.{sumBelow-ext, sumBelow-le, sumBelow-term, sumBelow-some, byDec}
+use Rattle.model.specs.Lists.{joinBelow, count}
+use Rattle.model.specs.Laws.Lists.{sumOver-joinBelow}
 use Rattle.model.specs.Trees.{Tree, leaf, branch, childNode}
 use Rattle.model.specs.Query.{opened}
 use Rattle.model.specs.Shapes.{Shape, Valid, root, opensFor}
 use Rattle.model.specs.Layout.{treeNodes, freeGroupNodes}
 use Rattle.model.specs.Laws.Entries.{nodeIs, nodes-once}
 
--- 'in a branch child 0 first': it is always opened
-pub opens-child-0 : (q : AABB) (n : NodeData) → opens q n 0 ≡ true
-unfolding opens bothTests
-opens-child-0 q n = refl
-
 -- the tree t stands at the node a, whose data is n; k is the number of an opened node of it
 pub data Opened (q : AABB) : NodeData → ℕ → Tree → ℕ → Type 0 where
   here : {n : NodeData} {a : ℕ} {t : Tree} → Opened q n a t a
-  below : {n : NodeData} {a g : ℕ} {f : ℕ → Tree} {k : ℕ} (i : ℕ) → i < 5 → opens q n i ≡ true → Opened q (childData n i) (childNode g i) (f i) k → Opened q n a (branch g f) k
+  below : {n : NodeData} {a g : ℕ} {f : ℕ → Tree} {k : ℕ} (i : ℕ) → i < 5 → opens q n i ≡ true → Opened q (childData n i) (childNode g i) (f i) k
+      → Opened q n a (branch g f) k
 
 module _ (q : AABB) where
   abbrev pub openedNodes : NodeData → ℕ → Tree → List ℕ

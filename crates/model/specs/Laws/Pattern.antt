@@ -1,22 +1,22 @@
--- A memory has one shape at most; so the pattern of the calls fixes what each call leaves, and asks nothing that contradicts itself.
+-- A memory has one shape at most; so the pattern of the calls fixes what each call leaves.
 --     one-chain, one-tree, one-free    what is read from a link, a node, a head is one chain, one tree, one list
 --     holds-one    two shapes of one world are equal
 --     obeys-fixed  two exits of one call are equal
---     by-length, by-settings, by-no-tree, by-tree  the four ways through a call
---     obeys-some   every call has an exit
+--     by-tree      a call on a tree: one shape tells what it leaves
 --     marks-cleared        the marks are 0 after each call not refused 1 or 2
---     refused-untouched    a refused call leaves state, nodes, dots and answers untouched (the mission's first demand)
+--     refused-untouched    a refused call leaves state, nodes, dots and answers untouched (§11.7)
 use mathlib.Core.Path.{_≡_, refl, ap, ap₂, sym, _∙_, subst, fun-ext}
 use mathlib.Core.Logic.{_≢_, _⊎_, ⊎-elim}
 use mathlib.Core.List.{List, [], _∷_, map}
-use mathlib.Core.Bool.{Bool, true, false, _&&_}
-use Prim.Native.Nat.{ℕ, _+_, suc, _≤_, _<_}
+use mathlib.Core.Bool.{Bool, true, _&&_}
+use Prim.Native.Nat.{ℕ, _+_, _≤_, _<_}
 use native.Mathlib.Nat.{suc-inj}
 use native.Mathlib.Decide.{decLt}
 use native.Mathlib.Omega.{arith}
 use lib.ListN.{length, replicate}
-use Rattle.model.specs.Sums.{indicator-same, sumOver-one, sumBelow-term, byDec}
+use Rattle.model.specs.Laws.Sums.{indicator-same, sumOver-one, sumBelow-term, byDec}
 use Rattle.model.specs.Lists.{count}
+use Rattle.model.specs.Laws.Lists.{length-map}
 use Rattle.arithmetic.specs.Tests.{byBool, true-false}
 use Rattle.model.specs.Trees.{Placed, Tree, leaf, branch, childNode, size}
 use Rattle.model.specs.Shapes.{Shape, Valid, WellFormed}
@@ -62,7 +62,8 @@ one-tree m a (branch g f) (branch h e) p q r s =
     ap₂ branch (sym same) (fun-ext each)
 
 -- the groups of a free list are no none
-pub one-free : (m : Mem) (h : ℕ) (gs hs : List ℕ) → ((k : ℕ) → 1 ≤ count k gs → k < 16384) → ((k : ℕ) → 1 ≤ count k hs → k < 16384) → FreeGroups m h gs → FreeGroups m h hs → gs ≡ hs
+pub one-free : (m : Mem) (h : ℕ) (gs hs : List ℕ) → ((k : ℕ) → 1 ≤ count k gs → k < 16384) → ((k : ℕ) → 1 ≤ count k hs → k < 16384)
+    → FreeGroups m h gs → FreeGroups m h hs → gs ≡ hs
 unfolding none
 one-free m h [] [] a b r s = refl
 one-free m h [] (k ∷ hs) a b r s = absurd (omega (arith, r, s .0, b k (omega (arith, indicator-same k))))
@@ -82,8 +83,7 @@ places-back [] = refl
 places-back (p ∷ ps) = ap (λ (xs : List ℕ). p ∷ xs) (places-back ps)
 
 pub length-blank : (ps : List ℕ) → length (map blank ps) ≡ length ps
-length-blank [] = refl
-length-blank (p ∷ ps) = ap suc (length-blank ps)
+length-blank ps = length-map blank ps
 
 pub size-small : (x : Shape) → Valid x → size (x .tree) < branchMark
 unfolding branchMark
@@ -100,7 +100,8 @@ holds-one w x y hx hy =
     let groups : x .groups ≡ y .groups = omega (arith, r .nodes, s .nodes) in
     let places : x .places ≡ y .places = omega (arith, r .dots, s .dots) in
     let settings : x .settings ≡ y .settings = sym (r .settings) ∙ s .settings in
-    let tree = one-tree m 0 (x .tree) (y .tree) (well-told _ _ (x .tree) (vx .wellFormed) (size-small x vx)) (well-told _ _ (y .tree) (vy .wellFormed) (size-small y vy)) (r .tree) (s .tree) in
+    let told : (z : Shape) → Valid z → Told (z .tree) = λ z v. well-told _ _ (z .tree) (v .wellFormed) (size-small z v) in
+    let tree = one-tree m 0 (x .tree) (y .tree) (told x vx) (told y vy) (r .tree) (s .tree) in
     let freeGroups = one-free m (w .state .«free_group») (x .freeGroups) (y .freeGroups) (free-range x vx) (free-range y vy) (r .groups) (s .groups) in
     let equal : length (map blank (x .freePlaces)) ≡ length (map blank (y .freePlaces)) =
     omega (arith, length-blank (x .freePlaces), length-blank (y .freePlaces), live-and-free x vx, live-and-free y vy, places, ap size tree) in
@@ -125,36 +126,8 @@ obeys-fixed fits rule w row e f tree? o p =
     (λ s. o .badSettings l s ∙ sym (p .badSettings l s)))
     (λ l. o .badLength l ∙ sym (p .badLength l))
 
--- The four ways through a call: what each branch of the code has to show. The last wants one shape, the one that the scan finds.
+-- a call on a tree: the shape that is found tells what it leaves
 module _ {B A : Type 0} (fits : Bool) (rule : Shape → Verdict B A) (w : World) (row : List B) (e : Exit B A) where
-  pub by-length : lengthsRight w && fits ≡ false → e ≡ exit w row (refused 1) → Obeys fits rule w row e
-  by-length l p =
-      record {
-        badLength = λ _. p;
-        badSettings = λ l′ _. true-false (sym l′ ∙ l);
-        noTree = λ l′ _ _. true-false (sym l′ ∙ l);
-        tree = λ l′ _ _ _. true-false (sym l′ ∙ l);
-      }
-
-  pub by-settings : lengthsRight w && fits ≡ true → inRange (w .state .settings) ≡ false → e ≡ exit w row (refused 2) → Obeys fits rule w row e
-  by-settings l s p =
-      record {
-        badLength = λ l′. true-false (sym l ∙ l′);
-        badSettings = λ _ _. p;
-        noTree = λ _ s′ _. true-false (sym s′ ∙ s);
-        tree = λ _ s′ _ _. true-false (sym s′ ∙ s);
-      }
-
-  pub by-no-tree : lengthsRight w && fits ≡ true → inRange (w .state .settings) ≡ true → ((x : Shape) → Holds w x → ⊥) → e ≡ exit (cleared w) row (refused 3)
-      → Obeys fits rule w row e
-  by-no-tree l s n p =
-      record {
-        badLength = λ l′. true-false (sym l ∙ l′);
-        badSettings = λ _ s′. true-false (sym s ∙ s′);
-        noTree = λ _ _ _. p;
-        tree = λ _ _ y h. absurd (n y h);
-      }
-
   pub by-tree : lengthsRight w && fits ≡ true → inRange (w .state .settings) ≡ true → (x : Shape) → Holds w x → e ≡ carriedOut w row (rule x)
       → Obeys fits rule w row e
   by-tree l s x h p =
@@ -165,22 +138,7 @@ module _ {B A : Type 0} (fits : Bool) (rule : Shape → Verdict B A) (w : World)
         tree = λ _ _ y k. p ∙ ap (λ (z : Shape). carriedOut w row (rule z)) (holds-one w x y h k);
       }
 
--- Every call has an exit, whatever the memory holds: the pattern's clauses exclude one another, and agree on the shape that is read.
-pub obeys-some : {B A : Type 0} (fits : Bool) (rule : Shape → Verdict B A) (w : World) (row : List B)
-    → ((x : Shape) × Holds w x) ⊎ ((x : Shape) → Holds w x → ⊥) → (e : Exit B A) × Obeys fits rule w row e
-obeys-some fits rule w row tree? =
-    byBool (lengthsRight w && fits)
-    (λ l.
-    byBool (inRange (w .state .settings))
-    (λ s.
-    ⊎-elim
-    (λ t. let e = carriedOut w row (rule (t .0)) in (e, by-tree fits rule w row e l s (t .0) (t .1) refl))
-    (λ n. let e = exit (cleared w) row (refused 3) in (e, by-no-tree fits rule w row e l s n refl))
-    tree?)
-    (λ s. let e = exit w row (refused 2) in (e, by-settings fits rule w row e l s refl)))
-    (λ l. let e = exit w row (refused 1) in (e, by-length fits rule w row e l refl))
-
--- 'a refused call leaves nodes, dots and answers untouched', and the state
+-- §11.7: a refused call keeps state, nodes, dots, rects and its row
 pub record Untouched {B A : Type 0} (w : World) (row : List B) (e : Exit B A) : Type 0 where
   pub state : e .world .state ≡ w .state
   pub nodes : e .world .nodes ≡ w .nodes
@@ -226,7 +184,7 @@ zero-marks w row (refuse k) = (length (w .marks), refl)
 zero-marks w row (overflow n) = (length (w .marks), refl)
 zero-marks w row (accept x words a) = (x .places + x .groups, refl)
 
--- 'Marks: N + G bytes, 0 everywhere after each call not refused 1 or 2.'
+-- §2.13: the marks after a call that is not refused 1 or 2
 pub marks-cleared : {B A : Type 0} (fits : Bool) (rule : Shape → Verdict B A) (w : World) (row : List B) (e : Exit B A)
     → ((x : Shape) × Holds w x) ⊎ ((x : Shape) → Holds w x → ⊥) → Obeys fits rule w row e → refusal (e .reply) ≢ 1 → refusal (e .reply) ≢ 2
     → (n : ℕ) × (e .world .marks ≡ replicate n 0)

@@ -5,18 +5,21 @@
 --     leaves-length        six words a leaf
 --     Clean, branches-le   a tree that a cleanup leaves alone has at most height × size branches
 use mathlib.Core.Path.{_≡_, refl, ap, sym, _∙_}
-use mathlib.Core.List.{List, []}
+use mathlib.Core.List.{[]}
 use mathlib.Core.Bool.{false, cond}
-use Prim.Native.Nat.{ℕ, zero, suc, _+_, _*_, _-_, _≤_, _<_}
-use native.Mathlib.Nat.{le-refl, suc-mul, mul-add, mul-zero}
+use Prim.Native.Nat.{ℕ, zero, suc, _+_, _*_, _≤_, _<_}
+use native.Mathlib.Nat.{le-refl, suc-mul}
 use native.Mathlib.Omega.{arith}
-use lib.ListN.{length, length-append}
+use lib.ListN.{length}
 use Rattle.geometry.specs.declared.aabb.AABB.{AABB}
 use Rattle.geometry.specs.declared.node_data.NodeData.{NodeData}
-use Rattle.model.specs.Sums.{sumOver-one, sumBelow, sumBelow-ext, sumBelow-le, sumBelow-term, sumBelow-some}
-use Rattle.model.specs.Lists.{all-map, joinBelow, joinBelow-ext, filter, filter-none, filter-joinBelow}
+use Rattle.model.specs.Sums.{sumBelow}
+use Rattle.model.specs.Laws.Sums.{sumOver-one, sumBelow-mul, sumBelow-ext, sumBelow-le, sumBelow-term, sumBelow-some}
+use Rattle.model.specs.Lists.{filter}
+use Rattle.model.specs.Laws.Lists.{length-join, all-map, joinBelow-ext, filter-none, filter-joinBelow}
 use Rattle.arithmetic.specs.Tests.{byBool, true-false}
-use Rattle.model.specs.Trees.{Placed, Tree, leaf, branch, sumGroups, AllDots, Shallow, size, dots, allDots-dots}
+use Rattle.model.specs.Trees.{Placed, Tree, leaf, branch, sumGroups, AllDots, Shallow, size}
+use Rattle.model.specs.Laws.Trees.{dots, allDots-dots}
 use Rattle.model.specs.Insert.{routeDot}
 use Rattle.model.specs.Dots.{isHit}
 use Rattle.model.specs.Laws.Dots.{hit-opens}
@@ -58,21 +61,14 @@ module _ (q : AABB) where
 
 -- ---- six words a leaf
 
-sum-six : (n : ℕ) (f : ℕ → ℕ) → sumBelow n (λ i. 6 * f i) ≡ 6 * sumBelow n f
-sum-six zero f = refl
-sum-six (suc n) f = omega (arith, sum-six n f)
-
-length-join : {A : Type 0} (n : ℕ) (f : ℕ → List A) → length (joinBelow n f) ≡ sumBelow n (λ i. length (f i))
-length-join zero f = refl
-length-join (suc n) f = omega (arith, length-append (joinBelow n f) (f n), length-join n f)
-
--- 'a leaf is one answer and takes six words'
+-- §9.2: six words a leaf
 pub leaves-length : (n : NodeData) (t : Tree) → length (leavesOf n t) ≡ 6 * leafCount t
 leaves-length n (leaf chain) = refl
 leaves-length n (branch g f) =
     length-join 4 (λ i. leavesOf (childData n (1 + i)) (f (1 + i)))
-    ∙ sumBelow-ext 4 (λ i. length (leavesOf (childData n (1 + i)) (f (1 + i)))) (λ i. 6 * leafCount (f (1 + i))) (λ i b. leaves-length (childData n (1 + i)) (f (1 + i)))
-    ∙ sum-six 4 (λ i. leafCount (f (1 + i)))
+    ∙ sumBelow-ext 4 (λ i. length (leavesOf (childData n (1 + i)) (f (1 + i)))) (λ i. 6 * leafCount (f (1 + i)))
+    (λ i b. leaves-length (childData n (1 + i)) (f (1 + i)))
+    ∙ sumBelow-mul 4 6 (λ i. leafCount (f (1 + i)))
 
 -- ---- trees that a cleanup leaves as they are
 
@@ -85,10 +81,6 @@ clean-live (leaf c) k b = omega (arith, sumOver-one c)
 clean-live (branch g f) k b =
     let s = sumBelow-some 5 (λ i. busy (f i)) (k .0) in
     omega (arith, clean-live (f (s .0)) (k .1 (s .0) (s .1)) (s .2), sumBelow-term 5 (λ i. size (f i)) (s .0) (s .1))
-
-sumBelow-mul : (k n : ℕ) (f : ℕ → ℕ) → sumBelow k (λ i. n * f i) ≡ n * sumBelow k f
-sumBelow-mul zero n f = sym (mul-zero n)
-sumBelow-mul (suc k) n f = omega (arith, sumBelow-mul k n f, mul-add n (sumBelow k f) (f k))
 
 pub branches-le : (n : ℕ) (t : Tree) → Shallow n t → Clean t → sumGroups (λ g. 1) t ≤ n * size t
 branches-le n (leaf c) s k = omega arith

@@ -1,52 +1,32 @@
 -- Laws of the remove.
 --     Gone, found-gone     a yes takes out one dot of that id, whose place is the one freed
 --     found-live   a dot that stands where its rectangle routes to is found by it
---     remove-all, remove-shallow, remove-routed, remove-groups, remove-valid       what it keeps
+--     remove-all, remove-groups, remove-valid      what it keeps
 use mathlib.Core.Path.{_≡_, refl, ap, sym, _∙_, subst}
 use mathlib.Core.List.{List, [], _∷_}
-use mathlib.Core.Bool.{true, cond, _&&_}
-use Prim.Native.Nat.{ℕ, zero, suc, _+_, _-_, _≤_}
+use mathlib.Core.Bool.{true}
+use Prim.Native.Nat.{ℕ, _+_, _≤_}
 use native.Mathlib.Decide.{decLe}
 use native.Mathlib.Omega.{arith}
 use lib.ListN.{length}
 use Rattle.geometry.specs.declared.aabb.AABB.{AABB}
 use Rattle.geometry.specs.declared.settings.Settings.{Settings}
 use Rattle.geometry.specs.declared.node_data.NodeData.{NodeData}
-use Rattle.model.specs.Sums.{indicator, indicator-other, changed-other, changed-all, sumOver, sumBelow-some, sumBelow-changed, byDec}
+use Rattle.model.specs.Sums.{sumOver}
+use Rattle.model.specs.Laws.Sums.{indicator-other, sumOver-le, changed-other, changed-all, sumBelow-some, sumBelow-changed, byDec}
 use Rattle.model.specs.Lists.{All}
 use Rattle.arithmetic.specs.Tests.{byBool, true-false}
-use Rattle.model.specs.Trees.{Placed, Tree, leaf, branch, sumDots, sumGroups, AllDots, Shallow}
+use Rattle.model.specs.Trees.{Placed, Tree, leaf, branch, sumDots, sumGroups, AllDots}
 use Rattle.model.specs.Insert.{routeDot}
+use Rattle.model.specs.declared.Dot.{Dot}
 use Rattle.model.specs.Dots.{acceptableDot, matches}
-use Rattle.model.specs.Laws.Dots.{match-id, id-match}
+use Rattle.model.specs.Laws.Dots.{match-id, id-match, onDot, idIs, dotIs, sameRect-true}
 use Rattle.geometry.specs.Cells.{childData, route}
 use Rattle.geometry.specs.Rectangles.{sameRect}
 use Rattle.geometry.specs.Laws.Geometry.{route-child}
-use lib.IntN.{ℤ}
-use Rattle.arithmetic.specs.Ints.{eqZ}
-use Rattle.arithmetic.specs.Linear.{eq-t, t-eq, nat-eq, and-t}
 use Rattle.model.specs.Remove.{firstHas, firstOut, firstPlace, removeSays, removeAt, removePlace}
 use Rattle.model.specs.Laws.Query.{Routed}
 use Rattle.model.specs.Shapes.{WellFormed}
-
-eqZ-true : (a b : ℤ) → eqZ a b ≡ true → a ≡ b
-eqZ-true a b e = nat-eq a b (eq-t a b e)
-
-pub sameRect-true : (a b : AABB) → sameRect a b ≡ true → a ≡ b
-unfolding sameRect
-sameRect-true a b e =
-    let p = and-t (eqZ (a .x1) (b .x1) && eqZ (a .y1) (b .y1)) (eqZ (a .x2) (b .x2) && eqZ (a .y2) (b .y2)) e in
-    let q = and-t (eqZ (a .x1) (b .x1)) (eqZ (a .y1) (b .y1)) (p .0) in
-    let r = and-t (eqZ (a .x2) (b .x2)) (eqZ (a .y2) (b .y2)) (p .1) in
-    let x1 = eqZ-true (a .x1) (b .x1) (q .0) in
-    let y1 = eqZ-true (a .y1) (b .y1) (q .1) in
-    let x2 = eqZ-true (a .x2) (b .x2) (r .0) in
-    let y2 = eqZ-true (a .y2) (b .y2) (r .1) in
-    λ i. record { x1 = x1 i; y1 = y1 i; x2 = x2 i; y2 = y2 i }
-
-pub sameRect-same : (r : AABB) → sameRect r r ≡ true
-unfolding sameRect
-sameRect-same r = rw (t-eq (r .x1) (r .x1) refl, t-eq (r .y1) (r .y1) refl, t-eq (r .x2) (r .x2) refl, t-eq (r .y2) (r .y2) refl) refl
 
 -- a dot of id k went, and p was its place
 abbrev pub Gone : ℕ → ℕ → ((Placed → ℕ) → ℕ) → ((Placed → ℕ) → ℕ) → Type 0
@@ -59,7 +39,7 @@ out-gone k (d ∷ ds) e =
     (λ t. (d, match-id k (d .dot) t, (λ h. rw t refl), rw t refl))
     (λ t. let r = out-gone k ds (rw t at e) in (r .0, r .1, (λ h. rw t (omega (arith, r .2 h))), rw t (r .3)))
 
-pub has-first : (k : ℕ) (ds : List Placed) → 1 ≤ sumOver (λ d. indicator k (d .dot .id)) ds → firstHas k ds ≡ true
+pub has-first : (k : ℕ) (ds : List Placed) → 1 ≤ sumOver (onDot (idIs k)) ds → firstHas k ds ≡ true
 has-first k [] h = absurd (omega arith)
 has-first k (d ∷ ds) h =
     byBool (matches k (d .dot))
@@ -73,7 +53,7 @@ all-out P k (d ∷ ds) a = byBool (matches k (d .dot)) (λ t. rw t (a .1)) (λ t
 all-some : (P : Placed → Type 0) (h : Placed → ℕ) (ds : List Placed) → All P ds → 1 ≤ sumOver h ds → (d : Placed) × P d × (1 ≤ h d)
 all-some P h [] a b = absurd (omega arith)
 all-some P h (d ∷ ds) a b =
-    byDec (native.Mathlib.Decide.decLe 1 (h d)) (λ c. (d, a .0, c)) (λ c. all-some P h ds (a .1) (omega arith))
+    byDec (decLe 1 (h d)) (λ c. (d, a .0, c)) (λ c. all-some P h ds (a .1) (omega arith))
 
 -- a dot that h counts is there, with what holds of all
 pub allDots-some : (P : Placed → Type 0) (h : Placed → ℕ) (t : Tree) → AllDots P t → 1 ≤ sumDots h t → (d : Placed) × P d × (1 ≤ h d)
@@ -81,19 +61,11 @@ allDots-some P h (leaf c) a b = all-some P h c a b
 allDots-some P h (branch g f) a b =
     let s = sumBelow-some 5 (λ i. sumDots h (f i)) b in allDots-some P h (f (s .0)) (a (s .0) (s .1)) (s .2)
 
--- 1 at a dot of this id and rectangle
-abbrev pub pair : ℕ → AABB → Placed → ℕ
-pair k r d = cond (sameRect r (d .dot .rect)) (indicator k (d .dot .id)) 0
+dot-id : (k : ℕ) (r : AABB) (d : Dot) → dotIs k r d ≤ idIs k d
+dot-id k r d = byBool (sameRect r (d .rect)) (λ e. rw e (omega arith)) (λ e. rw e (omega arith))
 
-pair-le : (k : ℕ) (r : AABB) (d : Placed) → pair k r d ≤ indicator k (d .dot .id)
-pair-le k r d = byBool (sameRect r (d .dot .rect)) (λ e. rw e (omega arith)) (λ e. rw e (omega arith))
-
-pair-rect : (k : ℕ) (r : AABB) (d : Placed) → 1 ≤ pair k r d → r ≡ d .dot .rect
-pair-rect k r d h = byBool (sameRect r (d .dot .rect)) (λ e. sameRect-true r (d .dot .rect) e) (λ e. absurd (omega (arith, rw e at h)))
-
-sumOver-le : (h k : Placed → ℕ) (ds : List Placed) → ((d : Placed) → h d ≤ k d) → sumOver h ds ≤ sumOver k ds
-sumOver-le h k [] e = omega arith
-sumOver-le h k (d ∷ ds) e = omega (arith, e d, sumOver-le h k ds e)
+dot-rect : (k : ℕ) (r : AABB) (d : Dot) → 1 ≤ dotIs k r d → r ≡ d .rect
+dot-rect k r d h = byBool (sameRect r (d .rect)) (λ e. sameRect-true r (d .rect) e) (λ e. absurd (omega (arith, rw e at h)))
 
 module _ (k : ℕ) (r : AABB) where
   pub found-gone : (c : NodeData) (t : Tree) → removeSays k r c t ≡ true → Gone k (removePlace k r c t) (λ h. sumDots h t) (λ h. sumDots h (removeAt k r c t))
@@ -103,42 +75,24 @@ module _ (k : ℕ) (r : AABB) where
       let x = found-gone (childData c i) (f i) e in
       (x .0, x .1, (λ h. omega (arith, x .2 h, sumBelow-changed 5 (λ j y. sumDots h y) f i (removeAt k r (childData c i) (f i)) (route-child c r))), x .3)
 
-  pub found-live : (c : NodeData) (t : Tree) → Routed c t → 1 ≤ sumDots (pair k r) t → removeSays k r c t ≡ true
-  found-live c (leaf ds) ro h = has-first k ds (omega (arith, sumOver-le (pair k r) (λ d. indicator k (d .dot .id)) ds (pair-le k r)))
+  pub found-live : (c : NodeData) (t : Tree) → Routed c t → 1 ≤ sumDots (onDot (dotIs k r)) t → removeSays k r c t ≡ true
+  found-live c (leaf ds) ro h = has-first k ds (omega (arith, sumOver-le (onDot (dotIs k r)) (onDot (idIs k)) ds (λ d. dot-id k r (d .dot))))
   found-live c (branch g f) ro h =
-      let s = sumBelow-some 5 (λ i. sumDots (pair k r) (f i)) h in
+      let s = sumBelow-some 5 (λ i. sumDots (onDot (dotIs k r)) (f i)) h in
       let j = s .0 in
       let i = route c r in
-      let d = allDots-some (λ d. routeDot c d ≡ j) (pair k r) (f j) (ro j (s .1) .0) (s .2) in
-      let e : j ≡ i = sym (ap (route c) (pair-rect k r (d .0) (d .2)) ∙ d .1) in
-      let p : 1 ≤ sumDots (pair k r) (f i) = subst (λ (y : ℕ). 1 ≤ sumDots (pair k r) (f y)) e (s .2) in
+      let d = allDots-some (λ d. routeDot c d ≡ j) (onDot (dotIs k r)) (f j) (ro j (s .1) .0) (s .2) in
+      let e : j ≡ i = sym (ap (route c) (dot-rect k r (d .0 .dot) (d .2)) ∙ d .1) in
+      let p : 1 ≤ sumDots (onDot (dotIs k r)) (f i) = subst (λ (y : ℕ). 1 ≤ sumDots (onDot (dotIs k r)) (f y)) e (s .2) in
       found-live (childData c i) (f i) (ro i (route-child c r) .1) p
 
   pub remove-all : (P : Placed → Type 0) (c : NodeData) (t : Tree) → AllDots P t → AllDots P (removeAt k r c t)
   remove-all P c (leaf ds) a = all-out P k ds a
   remove-all P c (branch g f) a =
       let i = route c r in
-      λ j b. changed-all (λ (j : ℕ) (x : Tree). AllDots P x) f i (removeAt k r (childData c i) (f i)) j (λ e. remove-all P (childData c i) (f i) (a i (route-child c r))) (λ ne. a j b)
+      λ j b. changed-all (λ (j : ℕ) (x : Tree). AllDots P x) f i (removeAt k r (childData c i) (f i)) j
+      (λ e. remove-all P (childData c i) (f i) (a i (route-child c r))) (λ ne. a j b)
 
-  pub remove-shallow : (n : ℕ) (c : NodeData) (t : Tree) → Shallow n t → Shallow n (removeAt k r c t)
-  remove-shallow n c (leaf ds) s = tt
-  remove-shallow zero c (branch g f) s = absurd s
-  remove-shallow (suc n) c (branch g f) s =
-      let i = route c r in
-      λ j b. changed-all (λ (j : ℕ) (x : Tree). Shallow n x) f i (removeAt k r (childData c i) (f i)) j (λ e. remove-shallow n (childData c i) (f i) (s i (route-child c r))) (λ ne. s j b)
-
-  pub remove-routed : (c : NodeData) (t : Tree) → Routed c t → Routed c (removeAt k r c t)
-  remove-routed c (leaf ds) ro = tt
-  remove-routed c (branch g f) ro =
-      let i = route c r in
-      let ib = route-child c r in
-      let u = removeAt k r (childData c i) (f i) in
-      λ j b. changed-all (λ (j : ℕ) (x : Tree). AllDots (λ d. routeDot c d ≡ j) x × Routed (childData c j) x) f i u j
-      (λ e. subst (λ (y : ℕ). AllDots (λ d. routeDot c d ≡ y) u × Routed (childData c y) u) (sym e)
-      (remove-all (λ d. routeDot c d ≡ i) (childData c i) (f i) (ro i ib .0), remove-routed (childData c i) (f i) (ro i ib .1)))
-      (λ ne. ro j b)
-
-module _ (k : ℕ) (r : AABB) where
   pub remove-groups : (h : ℕ → ℕ) (c : NodeData) (t : Tree) → sumGroups h (removeAt k r c t) ≡ sumGroups h t
   remove-groups h c (leaf ds) = refl
   remove-groups h c (branch g f) =

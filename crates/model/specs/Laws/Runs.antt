@@ -22,12 +22,14 @@ use Rattle.model.specs.declared.Dot.{Dot}
 use Rattle.model.specs.Shapes.{Shape, fresh, inserted, splitsMade, splitsNeeded, removed, foundBy, cleaned, cleans, listed, opensFor}
 use Rattle.model.specs.Layout.{World, groupsOf, placesOf, lengthsRight, layout, cleared, Holds}
 use Rattle.model.specs.declared.answers.Found.{Found}
-use Rattle.model.specs.Calls.{Reply, refused, tooMany, answered, refusal, Verdict, refuse, overflow, accept, carriedOut, Obeys, insertRule, removeRule, cleanupRule, queryRule, Make, Insert, Remove, Cleanup, Query}
+use Rattle.model.specs.Calls.{Reply, refused, tooMany, answered, refusal, Verdict, refuse, overflow, accept, carriedOut, Obeys}
+use Rattle.model.specs.Calls.{insertRule, removeRule, cleanupRule, queryRule, Make, Insert, Remove, Cleanup, Query}
 use Rattle.model.specs.Book.{Event, insert, remove, cleanup, query, Happens, Run, accepted}
 use Rattle.model.specs.Laws.Shapes.{fresh-valid}
 use Rattle.model.specs.Laws.Layout.{right-fits, layout-holds, holds-lengths, holds-settings}
 use Rattle.model.specs.Laws.Pattern.{by-tree}
-use Rattle.model.specs.Laws.Calls.{reply-of, insert-exit, insert-cases, insert-refused, insert-accepted, remove-no, remove-yes, cleanup-done, query-short, query-done, query-holds}
+use Rattle.model.specs.Laws.Calls.{reply-of, insert-exit, insert-cases, insert-refused, insert-accepted, remove-no}
+use Rattle.model.specs.Laws.Calls.{remove-yes, cleanup-done, query-short, query-done, query-holds}
 
 pub made-holds : (lent : World) (s : Settings) (start : World) → Make lent s start (answered tt) → Holds start (fresh s (groupsOf lent) (placesOf lent))
 made-holds lent s start m =

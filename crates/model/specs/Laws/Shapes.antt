@@ -6,17 +6,19 @@
 --     fresh-valid, inserted-valid, removed-valid, cleaned-valid
 use mathlib.Core.Path.{_≡_, refl, ap, sym, _∙_}
 use mathlib.Core.List.{List, [], _∷_, _++_, map}
-use mathlib.Core.Bool.{Bool, true, false, cond, _&&_}
-use Prim.Native.Nat.{ℕ, zero, suc, _+_, _-_, _≤_, _<_}
+use mathlib.Core.Bool.{true, _&&_}
+use Prim.Native.Nat.{ℕ, zero, suc, _+_, _≤_, _<_}
 use native.Mathlib.Decide.{ℕ-discrete, decLt}
 use native.Mathlib.Omega.{arith}
 use lib.ListN.{length, length-append}
-use lib.Dec.{leb, ltb, T, lt→ltb}
+use lib.Dec.{leb, ltb}
 use lib.IntN.{pos}
 use Rattle.arithmetic.specs.Linear.{and-t}
 use Rattle.geometry.specs.declared.aabb.AABB.{AABB}
 use Rattle.geometry.specs.declared.settings.Settings.{Settings}
-use Rattle.model.specs.Sums.{indicator, indicator-same, indicator-other, sumOver, sumOver-append, sumOver-one, sumBelow, sumBelow-ext, sumBelow-le, sumBelow-add, sumBelow-zero, sumBelow-only, byDec}
+use Rattle.model.specs.Sums.{indicator, sumOver, sumBelow}
+use Rattle.model.specs.Laws.Sums.{indicator-same, indicator-other, sumOver-append, sumOver-one, sumOver-map, sumBelow-ext}
+use Rattle.model.specs.Laws.Sums.{sumBelow-le, sumBelow-add, sumBelow-zero, sumBelow-only, byDec}
 use Rattle.model.specs.Lists.{upTo, count}
 use Rattle.arithmetic.specs.Tests.{byBool, true-false}
 use Rattle.geometry.specs.Settings.{rootFits, between, inRange, D}
@@ -24,9 +26,10 @@ use Rattle.model.specs.declared.Dot.{Dot}
 use Rattle.model.specs.Dots.{acceptableDot}
 use Rattle.geometry.specs.declared.node_data.NodeData.{NodeData}
 use Rattle.geometry.specs.Cells.{mayDivide, rootData, childData}
-use Rattle.model.specs.Trees.{Placed, Tree, leaf, branch, dots, sumDots-dots, atPlace, size, Shallow}
+use Rattle.model.specs.Trees.{Placed, Tree, leaf, branch, atPlace, size, Shallow}
+use Rattle.model.specs.Laws.Trees.{dots, sumDots-dots}
 use Rattle.model.specs.Shapes.{Shape, Valid, WellFormed, below, fresh, inserted, splitsNeeded, removed, foundBy, cleaned, headOf, tailOf, root, placedIn}
-use borrow.Author.Tests.{leb-true}
+use borrow.Author.Tests.{leb-true, lt-ltb, le-ltb}
 use Rattle.geometry.specs.Laws.Geometry.{levels-root}
 use Rattle.model.specs.Laws.Query.{Routed}
 use Rattle.model.specs.Laws.Insert.{insert-sum, insert-groups, insert-valid, valid-shallow}
@@ -38,16 +41,11 @@ use Rattle.model.specs.Laws.Cleanup.{clean-sum, clean-groups, clean-vali
 
 pub below-yes : (k n : ℕ) → k < n → below k n ≡ 1
 unfolding below
-below-yes k n h = go (ltb k n) (lt→ltb k n h)
-  where
-    go : (b : Bool) → T b → _≡_ {A = ℕ} (cond b 1 0) 1
-    go true t = refl
-    go false t = absurd t
+below-yes k n h = rw (lt-ltb k n h) refl
 
 pub below-no : (k n : ℕ) → n ≤ k → below k n ≡ 0
 unfolding below
-below-no k n h =
-    byBool (ltb k n) (λ e. absurd (omega (arith, leb-true (suc k) n e))) (λ e. rw e refl)
+below-no k n h = rw (le-ltb k n h) refl
 
 pub below-le : (k n : ℕ) → below k n ≤ 1
 unfolding below
@@ -58,15 +56,11 @@ count-upTo k zero = sym (below-no k 0 (omega arith))
 count-upTo k (suc n) =
     let a = sumOver-append (indicator k) (upTo n) (n ∷ []) in
     byDec (ℕ-discrete k n)
-    (λ e. omega (arith, a, count-upTo k n, below-no k n (omega arith), below-yes k (suc n) (omega arith), ap (λ (y : ℕ). indicator k y) (sym e), indicator-same k))
+    (λ e. omega (arith, a, count-upTo k n, below-no k n (omega arith), below-yes k (suc n) (omega arith), ap (indicator k) (sym e), indicator-same k))
     (λ ne.
     byDec (decLt k n)
     (λ l. omega (arith, a, count-upTo k n, below-yes k n l, below-yes k (suc n) (omega arith), indicator-other k n ne))
     (λ g. omega (arith, a, count-upTo k n, below-no k n (omega arith), below-no k (suc n) (omega arith), indicator-other k n ne)))
-
-pub sumOver-map : {A B : Type 0} (h : B → ℕ) (f : A → B) (xs : List A) → sumOver h (map f xs) ≡ sumOver (λ x. h (f x)) xs
-sumOver-map h f [] = refl
-sumOver-map h f (x ∷ xs) = omega (arith, sumOver-map h f xs)
 
 sum-swap : (n : ℕ) (ps : List ℕ) → sumBelow n (λ k. count k ps) ≡ sumOver (λ p. sumBelow n (λ k. indicator k p)) ps
 sum-swap n [] = sumBelow-zero n (λ k. 0) (λ j b. refl)
@@ -142,7 +136,7 @@ valid-height x v =
     let s = x .settings in
     valid-shallow s (in-positive s (v .settingsFit) .smallestCell) (D s) (rootData s) (x .tree) (levels-root s) (v .wellFormed)
 
--- 'child 0 is a leaf': it could not split
+-- §2.12: child 0 is a leaf, for it could not split
 pub child-0-leaf : (s : Settings) (n : NodeData) (t : Tree) → WellFormed s (childData n 0) t → (chain : List Placed) × (t ≡ leaf chain)
 unfolding childData mayDivide
 child-0-leaf s n (leaf chain) v = (chain, refl)
@@ -174,7 +168,8 @@ count-head : (ps : List ℕ) → 1 ≤ length ps → (k : ℕ) → indicator k (
 count-head [] h k = absurd (omega arith)
 count-head (p ∷ ps) h k = refl
 
-pub inserted-valid : (dot : Dot) (x : Shape) → Valid x → acceptableDot (x .settings) dot ≡ true → 1 ≤ length (x .freePlaces) → splitsNeeded dot x ≤ length (x .freeGroups)
+pub inserted-valid : (dot : Dot) (x : Shape) → Valid x → acceptableDot (x .settings) dot ≡ true → 1 ≤ length (x .freePlaces)
+    → splitsNeeded dot x ≤ length (x .freeGroups)
     → Valid (inserted dot x)
 unfolding inserted
 inserted-valid dot x v ok room enough =
@@ -193,7 +188,8 @@ inserted-valid dot x v ok room enough =
             insert-sum s (atPlace k) (D s) (root x) d (x .tree) (x .freeGroups) (valid-height x v),
             count-head (x .freePlaces) room k,
           );
-      wellFormed = insert-valid s (pos .smallestCell) (D s) (root x) d (x .tree) (x .freeGroups) (levels-root s) ok (omega (arith, needed-count dot x)) (pos .leafLimit) (v .wellFormed);
+      wellFormed = insert-valid s (pos .smallestCell) (D s) (root x) d (x .tree) (x .freeGroups) (levels-root s) ok
+          (omega (arith, needed-count dot x)) (pos .leafLimit) (v .wellFormed);
     }
 
 pub removed-valid : (id : ℕ) (r : AABB) (x : Shape) → Valid x → foundBy id r x ≡ true → Valid (removed id r x)

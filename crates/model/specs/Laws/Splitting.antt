@@ -1,14 +1,14 @@
 -- The splits of an insert, and refusal 7.
 --     needed-count         the splits needed, by the recursion of Laws.Insert
 --     splits-enough        any D groups are enough for them
---     needed-le            'the splits needed' are at most D
+--     needed-le            the splits needed are at most D
 --     made-needed          an insert that finds that many groups free makes just them, and takes as many groups
 --     made-fewer           one that doesn't makes fewer, so that refusal 7 is told exactly by the insert itself
-use mathlib.Core.Path.{_≡_, refl, sym, _∙_}
+use mathlib.Core.Path.{_≡_, sym, _∙_}
 use mathlib.Core.List.{List, [], _∷_}
 use Prim.Native.Nat.{ℕ, zero, suc, _+_, _≤_, _<_}
 use native.Mathlib.Omega.{arith}
-use lib.ListN.{length, length-append}
+use lib.ListN.{length}
 use Rattle.arithmetic.specs.Tests.{byBool}
 use Rattle.geometry.specs.declared.settings.Settings.{Settings}
 use Rattle.geometry.specs.declared.node_data.NodeData.{NodeData}
@@ -16,14 +16,11 @@ use Rattle.geometry.specs.Settings.{D}
 use Rattle.geometry.specs.Cells.{childData}
 use Rattle.model.specs.declared.Dot.{Dot}
 use Rattle.model.specs.Lists.{upTo}
+use Rattle.model.specs.Laws.Lists.{length-upTo}
 use Rattle.model.specs.Trees.{Placed, Tree, leaf, branch}
 use Rattle.model.specs.Insert.{routeDot, dealt, mustSplit, insertAt}
 use Rattle.model.specs.Shapes.{Shape, root, grownBy, placedIn, splitsMade, splitsNeeded}
 use Rattle.model.specs.Laws.Insert.{splitCount, insert-splits, split-count-le}
-
-length-upTo : (n : ℕ) → length (upTo n) ≡ n
-length-upTo zero = refl
-length-upTo (suc n) = omega (arith, length-append (upTo n) (n ∷ []), length-upTo n)
 
 abbrev counted : Dot → Shape → ℕ
 counted dot x = splitCount (x .settings) (D (x .settings)) (root x) (dot .rect) (x .tree)
@@ -38,7 +35,7 @@ module _ (dot : Dot) (x : Shape) where
   unfolding splitsNeeded
   needed-count = enough (upTo (D (x .settings))) (omega (arith, length-upTo (D (x .settings))))
 
-  -- 'the splits that the same insert makes with groups enough'
+  -- §11.4: with groups enough
   pub splits-enough : (many : List ℕ) → D (x .settings) ≤ length many → grownBy dot x many .splits ≡ splitsNeeded dot x
   splits-enough many h = enough many h ∙ sym needed-count
 

@@ -1,0 +1,32 @@
+-- Laws of trees.
+--     dots         all dots, in the order of the query's walk
+--     sumDots-dots, allDots-dots   a weight over them, and what holds of each
+--     shallow-le   a tree is no higher than a greater height
+use mathlib.Core.Path.{_≡_, refl, _∙_}
+use mathlib.Core.List.{List}
+use Prim.Native.Nat.{ℕ, zero, suc, _≤_}
+use native.Mathlib.Omega.{arith}
+use Rattle.model.specs.Sums.{sumOver}
+use Rattle.model.specs.Lists.{joinBelow, All}
+use Rattle.model.specs.Trees.{Placed, Tree, leaf, branch, sumDots, AllDots, Shallow}
+use Rattle.model.specs.Laws.Sums.{sumBelow-ext}
+use Rattle.model.specs.Laws.Lists.{sumOver-joinBelow, all-joinBelow}
+
+abbrev pub dots : Tree → List Placed
+dots (leaf chain) = chain
+dots (branch g f) = joinBelow 5 (λ i. dots (f i))
+
+pub sumDots-dots : (h : Placed → ℕ) (t : Tree) → sumOver h (dots t) ≡ sumDots h t
+sumDots-dots h (leaf c) = refl
+sumDots-dots h (branch g f) =
+    sumOver-joinBelow h 5 (λ i. dots (f i)) ∙ sumBelow-ext 5 (λ i. sumOver h (dots (f i))) (λ i. sumDots h (f i)) (λ i b. sumDots-dots h (f i))
+
+pub allDots-dots : (P : Placed → Type 0) (t : Tree) → AllDots P t → All P (dots t)
+allDots-dots P (leaf c) a = a
+allDots-dots P (branch g f) a = all-joinBelow P 5 (λ i. dots (f i)) (λ i b. allDots-dots P (f i) (a i b))
+
+pub shallow-le : (n k : ℕ) (t : Tree) → n ≤ k → Shallow n t → Shallow k t
+shallow-le n k (leaf c) l s = tt
+shallow-le zero k (branch g f) l s = absurd s
+shallow-le (suc n) zero (branch g f) l s = absurd (omega arith)
+shallow-le (suc n) (suc k) (branch g f) l s = λ i b. shallow-le n k (f i) (omega arith) (s i b)
