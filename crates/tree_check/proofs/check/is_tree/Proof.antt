@@ -12,7 +12,8 @@ abbrev start : tie.Else3 → tie.Start
 start c = search
 
 freed : (c : tie.Else3) → Freed (start c .args .state) (start c .args .nodes .now) (start c .args .dots .now) (start c .args .rects .now)
-    (start c .args .marks .now) (length (start c .args .dots .now) / 2) (length (start c .args .nodes .now) / 10) (c .before .before .before .check-free .last .1 .0)
+    (start c .args .marks .now) (length (start c .args .dots .now) / 2) (length (start c .args .nodes .now) / 10)
+    (c .before .before .before .check-free .last .1 .0)
 freed c =
     let free : tie.After-check-free = search in
     let tree : tie.After-check-node = search in
