@@ -79,6 +79,24 @@ module _ (t : ℕ) where
       let lower : 1 + levels (at .below .result) ≤ levels (start .args .region) = search levels-below in
       (omega arith, (search, search sound-below, omega arith))
 
+  empty-again : group-lts.Need-loop-again group-calls group-pre group.Post Inv-loop μ-loop
+  empty-again c =
+      let turn : group-lts.At-loop group-calls group-pre group.Post Inv-loop μ-loop = search in
+      let some : 0 < turn .loop .left = omega arith in
+      search ahead-empty
+
+  bad-returns : group-lts.Need-returns group-calls group-pre group.Post Inv-loop μ-loop
+  bad-returns c =
+      let turn : group-lts.At-loop group-calls group-pre group.Post Inv-loop μ-loop = search in
+      let some : 0 < turn .loop .left = omega arith in
+      search ahead-bad
+
+  child-again : group-lts.Need-loop-again-2 group-calls group-pre group.Post Inv-loop μ-loop
+  child-again c =
+      let turn : group-lts.At-loop group-calls group-pre group.Post Inv-loop μ-loop = search in
+      let some : 0 < turn .loop .left = omega arith in
+      search ahead-next
+
   check-group-requires : node-lts.Need-check-group-requires node-calls node-pre node.Post
   check-group-requires c κs =
       let at : node-lts.After-group-at node-calls node-pre node.Post = search in
@@ -100,9 +118,9 @@ pub +check-group+check-node-spec : {M : Type 1} → statement M
     -- the next child's node
     (λ c. search needs) (λ c. omega arith) (λ c. omega arith) (λ c. omega arith) (λ c. omega arith) (λ c κs. omega arith)
     -- an empty leaf
-    (λ c. search needs) (λ c. search ahead-empty)
+    (λ c. search needs) (empty-again t)
     -- any other
-    (λ c κs. search shallow-depth) (check-node-requires t) (λ c. search needs) (λ c. search ahead-bad) (λ c. search needs) (λ c. search ahead-next)
+    (λ c κs. search shallow-depth) (check-node-requires t) (λ c. search needs) (bad-returns t) (λ c. search needs) (child-again t)
     -- no child is left
     (λ c. search needs) (λ c. search ahead-end))
     (λ t. node-lts.spec (node-calls t) (node-pre t) node.Post
