@@ -1,8 +1,8 @@
 -- A tree that stands in the rows, as the walks meet it.
 --     Stands       a tree stands at a node, in rows that have its nodes and places
 --     not-branch, is-branch        what a test for a branch says of the count
---     node-in      the row has the node at which a tree stands
---     mark-no-leaf, branch-levels      where the mark stands there is no leaf, and below a branch a level is left
+--     node-in-row  the row has the node at which a tree stands
+--     mark-no-leaf, shallow-branch     where the mark stands there is no leaf, and below a branch a level is left
 --     root-stands, root-total      the tree of a memory stands at node 0, and its nodes are few enough to be counted
 use mathlib.Core.Path.{_≡_, refl, ap, sym, _∙_, subst}
 use mathlib.Core.List.{List, [], _∷_, map}
@@ -59,9 +59,9 @@ is-branch nodes a {w} {b} e f n = sym (ap (λ (x : Node). x .count) e) ∙ eqb-t
 
 -- ---- what a walk uses of the tree at a node
 
-pub node-in : (nodes : List ℕ) (a : ℕ) (t : Tree) → NodesIn nodes a t → HasNode nodes a
-node-in nodes a (leaf chain) n = n
-node-in nodes a (branch g f) n = n .0
+pub node-in-row : (nodes : List ℕ) (a : ℕ) (t : Tree) → NodesIn nodes a t → HasNode nodes a
+node-in-row nodes a (leaf chain) n = n
+node-in-row nodes a (branch g f) n = n .0
 
 -- a leaf has fewer dots than the mark says
 pub mark-no-leaf : {count : ℕ} (chain : List Placed) → size (leaf chain) ≤ 65536 → count ≡ length chain → count ≡ branchMark → ⊥
@@ -69,9 +69,9 @@ unfolding branchMark
 mark-no-leaf chain few counted mark = omega (arith, sumOver-one chain)
 
 -- a branch has a level left, and its children stand a level lower
-pub branch-levels : (levels g : ℕ) (f : ℕ → Tree) → Shallow levels (branch g f) → (1 ≤ levels) × ((i : ℕ) → i < 5 → Shallow (levels - 1) (f i))
-branch-levels zero g f s = absurd s
-branch-levels (suc n) g f s = (omega arith, λ i b. rw sub-one (s i b))
+pub shallow-branch : (levels g : ℕ) (f : ℕ → Tree) → Shallow levels (branch g f) → (1 ≤ levels) × ((i : ℕ) → i < 5 → Shallow (levels - 1) (f i))
+shallow-branch zero g f s = absurd s
+shallow-branch (suc n) g f s = (omega arith, λ i b. rw sub-one (s i b))
 
 -- ---- every node and place of a tree, by counting
 

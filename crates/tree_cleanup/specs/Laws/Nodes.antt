@@ -26,7 +26,7 @@ use Rattle.memory.specs.Rows.{HasNode, setNodeAt}
 use Rattle.memory.specs.Laws.{first-set, count-set, node-length, changed-by}
 use Rattle.tree.specs.Frames.{nodeCount}
 use Rattle.tree.specs.Collapses.{collapse, cleanWords, TreeAndFree}
-use Rattle.tree.specs.Standing.{nodeTotal, not-branch, is-branch, node-in, mark-no-leaf, branch-levels}
+use Rattle.tree.specs.Standing.{nodeTotal, not-branch, is-branch, node-in-row, mark-no-leaf, shallow-branch}
 use Rattle.tree_cleanup.specs.declared.Swept.{Swept}
 use Rattle.tree_cleanup.specs.Walks.{HasGroup, emptyGroup, turnedNodes, walkOf, Fits, Cleaned, ChildrenAndFree, cleanChildren}
 use Rattle.tree_cleanup.specs.Walks.{NodeToClean, NodeCleaned, GroupToClean, GroupCleaned}
@@ -63,13 +63,13 @@ module _ {nodes : List ℕ} {swept : Swept} {a levels : ℕ} {node : Node} {dots
   first-is = ap (λ (x : Node). x .first) (k .words) ∙ k .stands .1 .1
 
   group-in : HasGroup nodes (node .first)
-  group-in = omega (arith, first-is, node-in nodes (childNode g 4) (f 4) (k .fits .nodesIn .1 4 (omega arith)))
+  group-in = omega (arith, first-is, node-in-row nodes (childNode g 4) (f 4) (k .fits .nodesIn .1 4 (omega arith)))
 
   child-fits : (i : ℕ) → i < 5 → Fits nodes (levels - 1) (childNode g i) (f i)
   child-fits i b =
       record {
         nodesIn = k .fits .nodesIn .1 i b;
-        shallow = branch-levels levels g f (k .fits .shallow) .1 i b;
+        shallow = shallow-branch levels g f (k .fits .shallow) .1 i b;
         few = omega (arith, k .fits .few, sumBelow-term 5 (λ j. size (f j)) i b);
       }
 
@@ -152,7 +152,7 @@ module _ {nodes : List ℕ} {swept : Swept} {a levels : ℕ} {node : Node} {dots
 -- ---- a node, by what the code reads of it
 
 pub walked-in : {nodes : List ℕ} {swept : Swept} {a levels : ℕ} → NodeToClean nodes swept a levels → HasNode nodes a
-walked-in {nodes} {swept} {a} w = node-in nodes a (w .tree) (w .fits .nodesIn)
+walked-in {nodes} {swept} {a} w = node-in-row nodes a (w .tree) (w .fits .nodesIn)
 
 module _ (nodes : List ℕ) (swept : Swept) (a levels : ℕ) {node : Node} {b : Bool}
     (words : node ≡ nodeAt nodes a) (told : b ≡ eqb (node .count) branchMark) where
@@ -182,7 +182,7 @@ module _ (nodes : List ℕ) (swept : Swept) (a levels : ℕ) {node : Node} {b : 
             let k : Branch nodes swept a levels node (w .dots) (w .rects) (w .free) g f = record { words = words; stands = stands; fits = fits } in
             record {
               inRow = group-in k;
-              level = branch-levels levels g f (fits .shallow) .0;
+              level = shallow-branch levels g f (fits .shallow) .0;
               room = omega arith;
               group = record {
                 dots = w .dots;
