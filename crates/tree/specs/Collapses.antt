@@ -1,7 +1,7 @@
 -- The cleanup in the words is that of the tree.
 --     Walk, collapse, cleanWords   the stores of the walk, with the head of the free groups
 --     clean-nodes  every weight on nodes is kept, in the tree and free together
---     clean-got    they make the tree and the free groups of `cleanTree` and `freedBy`
+--     tree-cleaned they make the tree and the free groups of `cleanTree` and `freedBy`
 use mathlib.Core.Path.{_≡_, refl, ap, sym, _∙_, subst}
 use mathlib.Core.Logic.{_≢_}
 use mathlib.Core.List.{List, [], _∷_}
@@ -51,31 +51,34 @@ abbrev pub cleanWords : Tree → ℕ → Walk → Walk
 cleanWords (leaf c) a s = s
 cleanWords (branch g f) a s = cond (allEmpty f) (collapse a g s) (downFrom 5 (λ i x. cleanWords (f i) (childNode g i) x) s)
 
--- what the walk of a subtree keeps and makes
-abbrev pub Was : Tree → ℕ → Walk → List ℕ → Type 0
-Was t a s free = ((k : ℕ) → nodeCount k a t + sumOver (overGroup (indicator k)) free ≤ 1) × Represents (s .mem) a t × FreeGroups (s .mem) (s .head) free
+-- the tree at a node and the free groups, no node twice
+abbrev pub TreeAndFree : Tree → ℕ → Walk → List ℕ → Type 0
+TreeAndFree t a s free =
+    ((k : ℕ) → nodeCount k a t + sumOver (overGroup (indicator k)) free ≤ 1) × Represents (s .mem) a t × FreeGroups (s .mem) (s .head) free
 
-abbrev pub Got : Tree → ℕ → Walk → List ℕ → Walk → Type 0
-Got t a s free w =
+-- what the walk of a subtree, and of the first children of a group, makes and keeps
+abbrev pub TreeCleaned : Tree → ℕ → Walk → List ℕ → Walk → Type 0
+TreeCleaned t a s free w =
     Represents (w .mem) a (cleanTree t) × FreeGroups (w .mem) (w .head) (freedBy t free) × ((k : ℕ) → nodeCount k a t ≡ 0 → SameNode (s .mem) (w .mem) k)
     × ((k : ℕ) → SamePlace (s .mem) (w .mem) k)
 
-abbrev pub GotKids : ℕ → ℕ → (ℕ → Tree) → Walk → List ℕ → Walk → Type 0
-GotKids g n f s free w =
+abbrev pub ChildrenCleaned : ℕ → ℕ → (ℕ → Tree) → Walk → List ℕ → Walk → Type 0
+ChildrenCleaned g n f s free w =
     ((j : ℕ) → j < n → Represents (w .mem) (childNode g j) (cleanTree (f j))) × FreeGroups (w .mem) (w .head) (downFrom n (λ i x. freedBy (f i) x) free)
     × ((k : ℕ) → sumBelow n (λ j. nodeCount k (childNode g j) (f j)) ≡ 0 → SameNode (s .mem) (w .mem) k) × ((k : ℕ) → SamePlace (s .mem) (w .mem) k)
 
-kids-clean : (g n : ℕ) (f : ℕ → Tree) → ((i a : ℕ) (s : Walk) (free : List ℕ) → Was (f i) a s free → Got (f i) a s free (cleanWords (f i) a s))
+children-cleaned : (g n : ℕ) (f : ℕ → Tree)
+    → ((i a : ℕ) (s : Walk) (free : List ℕ) → TreeAndFree (f i) a s free → TreeCleaned (f i) a s free (cleanWords (f i) a s))
     → (s : Walk) (free : List ℕ) → ((k : ℕ) → sumBelow n (λ j. nodeCount k (childNode g j) (f j)) + sumOver (overGroup (indicator k)) free ≤ 1)
     → ((j : ℕ) → j < n → Represents (s .mem) (childNode g j) (f j)) → FreeGroups (s .mem) (s .head) free
-    → GotKids g n f s free (downFrom n (λ i x. cleanWords (f i) (childNode g i) x) s)
-kids-clean g zero f ih s free o r fr = ((λ j b. absurd (not-suc-le-zero b)), fr, (λ k z. (refl, refl)), (λ k. (refl, refl)))
-kids-clean g (suc n) f ih s free o r fr =
+    → ChildrenCleaned g n f s free (downFrom n (λ i x. cleanWords (f i) (childNode g i) x) s)
+children-cleaned g zero f ih s free o r fr = ((λ j b. absurd (not-suc-le-zero b)), fr, (λ k z. (refl, refl)), (λ k. (refl, refl)))
+children-cleaned g (suc n) f ih s free o r fr =
     let N : ℕ → ℕ → ℕ = λ k j. nodeCount k (childNode g j) (f j) in
     let s₁ = cleanWords (f n) (childNode g n) s in
-    let fg₁ = freedBy (f n) free in
+    let free₁ = freedBy (f n) free in
     let a = ih n (childNode g n) s free ((λ k. omega (arith, o k)), r n (le-refl (suc n)), fr) in
-    let b = kids-clean g n f ih s₁ fg₁
+    let b = children-cleaned g n f ih s₁ free₁
     (λ k. omega (arith, o k, clean-nodes (indicator k) (childNode g n) (f n) free))
     (λ j jb.
     tree-frame (s .mem) (s₁ .mem) (childNode g j) (f j)
@@ -95,36 +98,36 @@ kids-clean g (suc n) f ih s free o r fr =
       (λ k. let x = a .3 k in let y = b .3 k in (x .0 ∙ y .0, x .1 ∙ y .1)),
     )
 
-collapse-got : (a g : ℕ) (f : ℕ → Tree) (s : Walk) (free : List ℕ) → ((i : ℕ) → i < 5 → f i ≡ leaf []) → Was (branch g f) a s free
+collapse-cleaned : (a g : ℕ) (f : ℕ → Tree) (s : Walk) (free : List ℕ) → ((i : ℕ) → i < 5 → f i ≡ leaf []) → TreeAndFree (branch g f) a s free
     → (Represents (collapse a g s .mem) a (leaf [])) × FreeGroups (collapse a g s .mem) (childNode g 0) (g ∷ free)
     × ((k : ℕ) → nodeCount k a (branch g f) ≡ 0 → SameNode (s .mem) (collapse a g s .mem) k)
-collapse-got a g f s free em h =
+collapse-cleaned a g f s free em h =
     let m = s .mem in
     let w = collapse a g s .mem in
     let mF = changed (m .first) a none in
-    let inKid : (k i : ℕ) → i < 5 → k ≡ childNode g i → 1 ≤ sumBelow 5 (λ j. nodeCount k (childNode g j) (f j)) =
+    let inChild : (k i : ℕ) → i < 5 → k ≡ childNode g i → 1 ≤ sumBelow 5 (λ j. nodeCount k (childNode g j) (f j)) =
     λ k i b e. omega (arith, sumBelow-term 5 (λ j. nodeCount k (childNode g j) (f j)) i b, ap (sumNodes (indicator k) (childNode g i)) (em i b), ap (λ (y : ℕ). indicator y (childNode g i)) e, indicator-same (childNode g i)) in
     -- the node a is none of the group's, and neither is a node of the free groups
-    let na : (i : ℕ) → i < 5 → a ≢ childNode g i = λ i b e. omega (arith, h .0 a, indicator-same a, inKid a i b e) in
+    let na : (i : ℕ) → i < 5 → a ≢ childNode g i = λ i b e. omega (arith, h .0 a, indicator-same a, inChild a i b e) in
     let off : (k : ℕ) → k ≢ a → k ≢ childNode g 0 → SameNode m w k = λ k ne nz.
     (sym (changed-other mF (childNode g 0) (s .head) k nz ∙ changed-other (m .first) a none k ne), sym (changed-other (m .count) a 0 k ne)) in
-    let kids : (i : ℕ) → i < 5 → Represents m (childNode g i) (leaf []) = λ i b. subst (λ (y : Tree). Represents m (childNode g i) y) (em i b) (h .1 .2 i b) in (
+    let children : (i : ℕ) → i < 5 → Represents m (childNode g i) (leaf []) = λ i b. subst (λ (y : Tree). Represents m (childNode g i) y) (em i b) (h .1 .2 i b) in (
       (changed-same (m .count) a 0, changed-other mF (childNode g 0) (s .head) a (na 0 (omega arith)) ∙ changed-same (m .first) a none),
       (
         refl,
-        changed-other (m .count) a 0 (childNode g 0) (λ e. na 0 (omega arith) (sym e)) ∙ kids 0 (omega arith) .0,
+        changed-other (m .count) a 0 (childNode g 0) (λ e. na 0 (omega arith) (sym e)) ∙ children 0 (omega arith) .0,
         (λ i b c.
             let x = off (childNode g i) (λ e. na i c (sym e)) (λ e. omega arith) in
-            (sym (x .0) ∙ kids i c .1, sym (x .1) ∙ kids i c .0)),
+            (sym (x .0) ∙ children i c .1, sym (x .1) ∙ children i c .0)),
         subst (λ (y : ℕ). FreeGroups w y free) (sym (changed-same mF (childNode g 0) (s .head)))
             (free-frame m w (s .head) free
             (λ q i c b.
             let inq : 1 ≤ sumOver (overGroup (indicator (childNode q i))) free = in-free q i b free c in
             off (childNode q i) (λ e. omega (arith, h .0 (childNode q i), inq, ap (λ (y : ℕ). indicator y a) e, indicator-same a))
-            (λ e. omega (arith, h .0 (childNode q i), inq, inKid (childNode q i) 0 (omega arith) e)))
+            (λ e. omega (arith, h .0 (childNode q i), inq, inChild (childNode q i) 0 (omega arith) e)))
             (h .2)),
       ),
-      (λ k z. off k (λ e. omega (arith, ap (λ (y : ℕ). indicator y a) e, indicator-same a)) (λ e. omega (arith, inKid k 0 (omega arith) e))),
+      (λ k z. off k (λ e. omega (arith, ap (λ (y : ℕ). indicator y a) e, indicator-same a)) (λ e. omega (arith, inChild k 0 (omega arith) e))),
     )
   where
     in-free : (q i : ℕ) → i < 5 → (free : List ℕ) → 1 ≤ sumOver (indicator q) free → 1 ≤ sumOver (overGroup (indicator (childNode q i))) free
@@ -134,13 +137,15 @@ collapse-got a g f s free em h =
         (λ e. omega (arith, sumBelow-term 5 (λ j. indicator (childNode q i) (childNode x j)) i b, ap (λ (y : ℕ). indicator (childNode q i) (childNode y i)) e, indicator-same (childNode q i)))
         (λ ne. omega (arith, in-free q i b xs (omega (arith, indicator-other q x ne))))
 
-pub clean-got : (t : Tree) (a : ℕ) (s : Walk) (free : List ℕ) → Was t a s free → Got t a s free (cleanWords t a s)
-clean-got (leaf c) a s free h = (h .1, h .2, (λ k z. (refl, refl)), (λ k. (refl, refl)))
-clean-got (branch g f) a s free h =
+pub tree-cleaned : (t : Tree) (a : ℕ) (s : Walk) (free : List ℕ) → TreeAndFree t a s free → TreeCleaned t a s free (cleanWords t a s)
+tree-cleaned (leaf c) a s free h = (h .1, h .2, (λ k z. (refl, refl)), (λ k. (refl, refl)))
+tree-cleaned (branch g f) a s free h =
     byBool (allEmpty f)
-    (λ e. let c = collapse-got a g f s free (children-empty f (zero-is (sumBelow 5 (λ i. busy (f i))) e)) h in rw e (c .0, c .1, c .2, (λ k. (refl, refl))))
     (λ e.
-    let K = kids-clean g 5 f (λ i b x y. clean-got (f i) b x y) s free (λ k. omega (arith, h .0 k)) (h .1 .2) (h .2) in
+    let c = collapse-cleaned a g f s free (children-empty f (zero-is (sumBelow 5 (λ i. busy (f i))) e)) h in
+    rw e (c .0, c .1, c .2, (λ k. (refl, refl))))
+    (λ e.
+    let K = children-cleaned g 5 f (λ i b x y. tree-cleaned (f i) b x y) s free (λ k. omega (arith, h .0 k)) (h .1 .2) (h .2) in
     let w = downFrom 5 (λ i x. cleanWords (f i) (childNode g i) x) s in
     let sa = K .2 a (omega (arith, h .0 a, indicator-same a)) in
     rw e ((sym (sa .1) ∙ h .1 .0, sym (sa .0) ∙ h .1 .1, K .0), K .1, (λ k z. K .2 k (omega arith)), K .3))

@@ -102,8 +102,8 @@ tree-put m w a (branch g f) (i ∷ p) u k on op sn sp r v =
 
 -- ---- nodes are once where groups are: node 1 + 5q + r is in the tree as often as group q, besides the root
 
-kids-indicator : (q r g : ℕ) → r < 5 → sumBelow 5 (λ i. indicator (childNode q r) (childNode g i)) ≡ indicator q g
-kids-indicator q r g b =
+children-indicator : (q r g : ℕ) → r < 5 → sumBelow 5 (λ i. indicator (childNode q r) (childNode g i)) ≡ indicator q g
+children-indicator q r g b =
     byDec (ℕ-discrete q g)
     (λ e.
     sumBelow-only 5 (λ i. indicator (childNode q r) (childNode g i)) r b (λ j jb ne. indicator-other (childNode q r) (childNode g j) (λ x. ne (omega arith)))
@@ -117,5 +117,5 @@ nodes-groups q r a (branch g f) b =
       arith,
       sumBelow-ext 5 (λ i. nodeCount (childNode q r) (childNode g i) (f i)) (λ i. indicator (childNode q r) (childNode g i) + groupCount q (f i)) (λ i ib. nodes-groups q r (childNode g i) (f i) b),
       sumBelow-add 5 (λ i. indicator (childNode q r) (childNode g i)) (λ i. groupCount q (f i)),
-      kids-indicator q r g b,
+      children-indicator q r g b,
     )

@@ -21,7 +21,7 @@ use Rattle.tree.specs.Paths.{Children, sub, nodeAt, put, sumDots-put, su
 use Rattle.tree.specs.Stores.{setFirst, setCount, setDot, setNext, free-frame, Stored, nodes-once, node-not-free, node-zero}
 use Rattle.model.specs.Cleanup.{cleanTree, freedBy}
 use Rattle.model.specs.Laws.Cleanup.{clean-sum, clean-groups}
-use Rattle.tree.specs.Collapses.{cleanWords, overGroup, clean-got}
+use Rattle.tree.specs.Collapses.{cleanWords, overGroup, tree-cleaned}
 
 -- ---- a leaf changes, with the free places: what is owed
 
@@ -144,7 +144,7 @@ nodes-all t free o k =
 pub clean-holds : (G N : ℕ) (m : Mem) (groupHead placeHead : ℕ) (t : Tree) (free spare : List ℕ) → Stored G N m groupHead placeHead t free spare
     → let w = cleanWords t 0 (record { mem = m; head = groupHead }) in Stored G N (w .mem) (w .head) placeHead (cleanTree t) (freedBy t free) spare
 clean-holds G N m groupHead placeHead t free spare H =
-    let g = clean-got t 0 (record { mem = m; head = groupHead }) free (nodes-all t free (λ k. omega (arith, H .groupsOnce k, below-le k G)), H .tree, H .groups) in
+    let g = tree-cleaned t 0 (record { mem = m; head = groupHead }) free (nodes-all t free (λ k. omega (arith, H .groupsOnce k, below-le k G)), H .tree, H .groups) in
     record {
       tree = g .0;
       groups = g .1;

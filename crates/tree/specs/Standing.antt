@@ -1,12 +1,15 @@
 -- A tree that stands in the rows, as the walks meet it.
 --     Stands       a tree stands at a node, in rows that have its nodes and places
 --     not-branch, is-branch        what a test for a branch says of the count
+--     node-in-row  the row has the node at which a tree stands
+--     mark-no-leaf, shallow-branch     where the mark stands there is no leaf, and below a branch a level is left
 --     root-stands, root-total      the tree of a memory stands at node 0, and its nodes are few enough to be counted
 use mathlib.Core.Path.{_≡_, refl, ap, sym, _∙_, subst}
 use mathlib.Core.List.{List, [], _∷_, map}
 use mathlib.Core.Bool.{Bool, true, false, not}
-use Prim.Native.Nat.{ℕ, _+_, _*_, _≤_, _<_}
+use Prim.Native.Nat.{ℕ, zero, suc, _+_, _-_, _*_, _≤_, _<_}
 use native.Mathlib.Decide.{decLt}
+use native.Mathlib.Numerals.{sub-one}
 use native.Mathlib.Omega.{arith}
 use lib.Dec.{eqb}
 use lib.IntN.{ℤ}
@@ -55,6 +58,22 @@ not-branch nodes a {w} {b} e f n h = eqb-false (w .count) branchMark (sym f ∙ 
 
 pub is-branch : (nodes : List ℕ) (a : ℕ) {w : Node} {b : Bool} → w ≡ nodeAt nodes a → b ≡ eqb (w .count) branchMark → not b ≡ false → countAt nodes a ≡ branchMark
 is-branch nodes a {w} {b} e f n = sym (ap (λ (x : Node). x .count) e) ∙ eqb-true (w .count) branchMark (sym f ∙ not-false b n)
+
+-- ---- what a walk uses of the tree at a node
+
+pub node-in-row : (nodes : List ℕ) (a : ℕ) (t : Tree) → NodesIn nodes a t → HasNode nodes a
+node-in-row nodes a (leaf chain) n = n
+node-in-row nodes a (branch g f) n = n .0
+
+-- a leaf has fewer dots than the mark says
+pub mark-no-leaf : {count : ℕ} (chain : List Placed) → size (leaf chain) ≤ 65536 → count ≡ length chain → count ≡ branchMark → ⊥
+unfolding branchMark
+mark-no-leaf chain few counted mark = omega (arith, sumOver-one chain)
+
+-- a branch has a level left, and its children stand a level lower
+pub shallow-branch : (levels g : ℕ) (f : ℕ → Tree) → Shallow levels (branch g f) → (1 ≤ levels) × ((i : ℕ) → i < 5 → Shallow (levels - 1) (f i))
+shallow-branch zero g f s = absurd s
+shallow-branch (suc n) g f s = (omega arith, λ i b. rw sub-one (s i b))
 
 -- ---- every node and place of a tree, by counting
 

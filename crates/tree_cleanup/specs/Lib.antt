@@ -1,5 +1,7 @@
--- The cleanup's walk.
+-- What the cleanup asks of the words and leaves.
+--     Walks        the walk of a node and of a group: what each asks, and what it leaves
+--     Answers      CleanedUp, the contract of the cleanup
+-- Laws has the proofs.
 pub mod Walks
-pub mod Laws
 pub mod Answers
-pub mod Cleanups
+pub mod Laws

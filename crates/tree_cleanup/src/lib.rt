@@ -4,7 +4,7 @@ ghost use Prim.Native.Nat.{_+_};
 ghost use Rattle.memory.specs.Rows.{HasNode};
 ghost use Rattle.tree.specs.Operations.{HasTree};
 ghost use Rattle.tree_cleanup.specs.Answers.{CleanedUp};
-ghost use Rattle.tree_cleanup.specs.Walks.{HasGroup, emptyGroup, turnedNodes, NodeWalk, NodeCleaned, GroupWalk, GroupCleaned};
+ghost use Rattle.tree_cleanup.specs.Walks.{HasGroup, emptyGroup, turnedNodes, NodeToClean, NodeCleaned, GroupToClean, GroupCleaned};
 use memory::node::Node;
 use memory::node::node_at;
 use memory::node::set_node;
@@ -48,7 +48,7 @@ fn turn(nodes: &mut [u32], node: usize, first: usize, head: u32)
 
 // A node: a branch with five empty children is turned, any other hands its group on.
 fn clean_node(nodes: &mut [u32], swept: Swept, node: usize, levels: u32) -> Swept
-    requires { ⌜ NodeWalk (now nodes) swept node levels ⌝ }
+    requires { ⌜ NodeToClean (now nodes) swept node levels ⌝ }
     ensures { λ r. ⌜ NodeCleaned (now (nodes .entry)) swept node levels (now (nodes .exit)) r ⌝ }
 {
     let words = node_at(nodes, node);
@@ -68,7 +68,7 @@ fn clean_node(nodes: &mut [u32], swept: Swept, node: usize, levels: u32) -> Swep
 
 // A group hands back its children below `left`, the last first.
 fn clean_group(nodes: &mut [u32], swept: Swept, first: usize, levels: u32, left: u32) -> Swept
-    requires { ⌜ GroupWalk (now nodes) swept first levels left ⌝ }
+    requires { ⌜ GroupToClean (now nodes) swept first levels left ⌝ }
     ensures { λ r. ⌜ GroupCleaned (now (nodes .entry)) swept first levels left (now (nodes .exit)) r ⌝ }
 {
     if left == 0 {

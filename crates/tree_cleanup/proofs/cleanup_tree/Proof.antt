@@ -1,8 +1,8 @@
 -- The walk from the root, and the state with the head that it leaves.
 use mathlib.Core.Path.{sym, subst}
 use Prim.Native.Nat.{ℕ}
-use Rattle.tree_cleanup.specs.Walks.{NodeWalk, NodeCleaned}
-use Rattle.tree_cleanup.specs.Cleanups.{root-walk, cleaned-up}
+use Rattle.tree_cleanup.specs.Walks.{NodeToClean, NodeCleaned}
+use Rattle.tree_cleanup.specs.Laws.Roots.{root-walk, cleaned-up}
 use borrow.Author.Needs.{needs}
 use Rattle.tree_cleanup.proofs.cleanup_tree.Statement.{statement}
 use Rattle.tree_cleanup.proofs.cleanup_tree.Tie as tie
@@ -12,7 +12,7 @@ deepest-requires c κs = search needs
 
 clean-node-requires : tie.Need-clean-node-requires
 clean-node-requires c κs = let a = c .before .before .before .before .args in
-    subst (λ (n : ℕ). NodeWalk (a .nodes .now) (record { head = a .state .«free_group»; turned = 0 }) 0 n) (sym (c .before .deepest .ensures)) (root-walk (a .state) (a .nodes .now) (c .before .before .before .before .pre))
+    subst (λ (n : ℕ). NodeToClean (a .nodes .now) (record { head = a .state .«free_group»; turned = 0 }) 0 n) (sym (c .before .deepest .ensures)) (root-walk (a .state) (a .nodes .now) (c .before .before .before .before .pre))
 
 changed-requires : tie.Need-changed-requires
 changed-requires c κs = search needs
