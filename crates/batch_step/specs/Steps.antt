@@ -26,7 +26,8 @@ RecordCarriedOut rule s nodes dots rects s′ nodes′ dots′ rects′ word =
     → Holds (world s′ nodes′ dots′ rects′ marks) (rule x .shape) × (word ≡ rule x .word)
 
 -- 'A refused record writes its own answer word and nothing else; records after it go on.'
-pub record Stepped (r : Record) (i : ℕ) (b : Batched) (answers nodes dots : List ℕ) (rects : List ℤ) (b′ : Batched) (answers′ nodes′ dots′ : List ℕ) (rects′ : List ℤ) : Type 0 where
+pub record Stepped (r : Record) (i : ℕ) (b : Batched) (answers nodes dots : List ℕ) (rects : List ℤ) (b′ : Batched) (answers′ nodes′ dots′ : List ℕ)
+    (rects′ : List ℤ) : Type 0 where
   pub refusal : b′ .refusal ≡ b .refusal
   pub count : b′ .count ≡ b .count
   pub words : (marks : List ℕ) (x : Shape) → Holds (world (b .state) nodes dots rects marks) x

@@ -78,23 +78,28 @@ pub record Exported {B A : Type 0} (fits : Bool) (words : A → List ℕ) (says 
 
 abbrev pub Inserts : ℕ → AABB → Lent → Lent → ℕ → Type 0
 Inserts id r l l′ result =
-    Exported (rowsFit (l .state) (l .answer)) number (λ (w : World) (row : List ℕ) (w′ : World) (row′ : List ℕ) (reply : Reply ℕ). Insert w (record { id = id; rect = r }) w′ reply) l [] l′ [] result
+    Exported (rowsFit (l .state) (l .answer)) number (λ (w : World) (row : List ℕ) (w′ : World) (row′ : List ℕ) (reply : Reply ℕ). Insert w
+    (record { id = id; rect = r }) w′ reply) l [] l′ [] result
 
 abbrev pub Removes : ℕ → AABB → Lent → Lent → ℕ → Type 0
 Removes id r l l′ result =
-    Exported (rowsFit (l .state) (l .answer)) yesOrNo (λ (w : World) (row : List ℕ) (w′ : World) (row′ : List ℕ) (reply : Reply Bool). Remove w id r w′ reply) l [] l′ [] result
+    Exported (rowsFit (l .state) (l .answer)) yesOrNo (λ (w : World) (row : List ℕ) (w′ : World) (row′ : List ℕ)
+    (reply : Reply Bool). Remove w id r w′ reply) l [] l′ [] result
 
 abbrev pub CleansUp : Lent → Lent → ℕ → Type 0
 CleansUp l l′ result =
-    Exported (rowsFit (l .state) (l .answer)) yesOrNo (λ (w : World) (row : List ℕ) (w′ : World) (row′ : List ℕ) (reply : Reply Bool). Cleanup w w′ reply) l [] l′ [] result
+    Exported (rowsFit (l .state) (l .answer)) yesOrNo (λ (w : World) (row : List ℕ) (w′ : World) (row′ : List ℕ)
+    (reply : Reply Bool). Cleanup w w′ reply) l [] l′ [] result
 
 abbrev pub CountsDots : Lent → Lent → ℕ → Type 0
 CountsDots l l′ result =
-    Exported (rowsFit (l .state) (l .answer)) number (λ (w : World) (row : List ℕ) (w′ : World) (row′ : List ℕ) (reply : Reply ℕ). References w w′ reply) l [] l′ [] result
+    Exported (rowsFit (l .state) (l .answer)) number (λ (w : World) (row : List ℕ) (w′ : World) (row′ : List ℕ)
+    (reply : Reply ℕ). References w w′ reply) l [] l′ [] result
 
 abbrev pub Queries : AABB → Lent → List ℕ → Lent → List ℕ → ℕ → Type 0
 Queries r l row l′ row′ result =
-    Exported (rowsFit (l .state) (l .answer)) hitsOpened (λ (w : World) (ids : List ℕ) (w′ : World) (ids′ : List ℕ) (reply : Reply Found). Query w r ids w′ ids′ reply) l row l′ row′ result
+    Exported (rowsFit (l .state) (l .answer)) hitsOpened (λ (w : World) (ids : List ℕ) (w′ : World) (ids′ : List ℕ)
+    (reply : Reply Found). Query w r ids w′ ids′ reply) l row l′ row′ result
 
 abbrev pub ListsAll : Lent → List ℕ → Lent → List ℕ → ℕ → Type 0
 ListsAll l row l′ row′ result = Exported (rowsFit (l .state) (l .answer)) hitsOpened All l row l′ row′ result
@@ -106,7 +111,8 @@ ListsLeaves l row l′ row′ result = Exported (rowsFit (l .state) (l .answer))
 abbrev pub Batches : List ℕ → Lent → List ℕ → Lent → List ℕ → ℕ → Type 0
 Batches records l answers l′ answers′ result =
     Exported (batchFits (l .state) records) (λ (done : Unit {0}). [])
-    (λ (w : World) (row : List ℕ) (w′ : World) (row′ : List ℕ) (reply : Reply (Unit {0})). Batch w (recordsIn records) row w′ row′ reply) l answers l′ answers′ result
+    (λ (w : World) (row : List ℕ) (w′ : World) (row′ : List ℕ) (reply : Reply (Unit {0})). Batch w (recordsIn records) row w′ row′ reply) l answers l′
+    answers′ result
 
 -- ---- make, which has no answer row, and the check alone
 
@@ -116,7 +122,8 @@ madeRow m row = stateRow (makeState (stateIn row) m) row (makeReply m)
 pub record Makes (row nodes dots : List ℕ) (rects : List ℤ) (marks row′ nodes′ dots′ : List ℕ) (rects′ : List ℤ) (marks′ : List ℕ) (result : ℕ) : Type 0 where
   pub otherLength : (length row ≡ 10 → ⊥) → (result ≡ 1) × (row′ ≡ row) × (nodes′ ≡ nodes) × (dots′ ≡ dots) × (rects′ ≡ rects) × (marks′ ≡ marks)
   pub carriedOut : length row ≡ 10
-      → (m : MakeAnswer) × ((before : State) → Make (world before nodes dots rects marks) (settingsIn row) (world (makeState before m) nodes′ dots′ rects′ marks′) (makeReply m))
+      → (m : MakeAnswer) × ((before : State) → Make (world before nodes dots rects marks) (settingsIn row)
+      (world (makeState before m) nodes′ dots′ rects′ marks′) (makeReply m))
       × (result ≡ resultOf (makeReply m)) × (row′ ≡ madeRow m row)
 
 pub record Checks (row nodes dots : List ℕ) (rects : List ℤ) (marks marks′ : List ℕ) (result : ℕ) : Type 0 where

@@ -46,7 +46,8 @@ replyWord word (tooMany n) = refusedWord 8
 replyWord word (answered a) = word a
 
 module _ {A : Type 0} (word : A → ℕ) (w w′ : World) (x : Shape) (reply : Reply A) (same : cleared w ≡ layout x) where
-  left-by : (v : Verdict ℕ A) → exit w′ [] reply ≡ carriedOut w [] v → (w′ ≡ layout (recorded word x v .shape)) × (replyWord word reply ≡ recorded word x v .word)
+  left-by : (v : Verdict ℕ A) → exit w′ [] reply ≡ carriedOut w [] v → (w′ ≡ layout (recorded word x v .shape))
+      × (replyWord word reply ≡ recorded word x v .word)
   left-by (refuse k) e = (world-of e ∙ same, ap (replyWord word) (reply-of e))
   left-by (overflow n) e = (world-of e ∙ same, ap (replyWord word) (reply-of e))
   left-by (accept y row a) e = (world-of e, ap (replyWord word) (reply-of e))
@@ -87,42 +88,53 @@ module _ {A : Type 0} (word : A → ℕ) (rule : Shape → Verdict ℕ A) (r : R
 -- the answers of each operation, by what the code's match has told of them
 module _ {s : State} {nodes dots : List ℕ} {rects : List ℤ} (t : IsTree s nodes dots rects) (dot : Dot) {nodes′ dots′ : List ℕ} {rects′ : List ℤ} where
   module _ (a : InsertAnswer) (done : CarriedOut (insertRule dot) s nodes dots rects (insertState s a) nodes′ dots′ rects′ (insertReply a)) where
-    insert-done : (b : InsertAnswer) → a ≡ b → (u : State) (n : ℕ) → Changed s u (insertState s b) → n ≡ replyWord (λ k. k) (insertReply b) → RecordCarriedOut (carryOut (recordOf 0 dot)) s nodes dots rects u nodes′ dots′ rects′ n
+    insert-done : (b : InsertAnswer) → a ≡ b → (u : State) (n : ℕ) → Changed s u (insertState s b) → n ≡ replyWord (λ k. k) (insertReply b)
+        → RecordCarriedOut (carryOut (recordOf 0 dot)) s nodes dots rects u nodes′ dots′ rects′ n
     insert-done b e =
         by-changed (λ k. k) (insertRule dot) (recordOf 0 dot) (λ x. insert-record (recordOf 0 dot) x refl)
         (subst (λ (v : InsertAnswer). CarriedOut (insertRule dot) s nodes dots rects (insertState s v) nodes′ dots′ rects′ (insertReply v)) e done) t
 
-    pub insert-refused : {k n : ℕ} → a ≡ insert.Refused k → n ≡ refusedWord k → RecordCarriedOut (carryOut (recordOf 0 dot)) s nodes dots rects s nodes′ dots′ rects′ n
+    pub insert-refused : {k n : ℕ} → a ≡ insert.Refused k → n ≡ refusedWord k
+        → RecordCarriedOut (carryOut (recordOf 0 dot)) s nodes dots rects s nodes′ dots′ rects′ n
     insert-refused e w = insert-done _ e s _ refl w
 
-    pub insert-splits : {k : ℕ} {s′ u : State} → a ≡ insert.Splits k s′ → Changed s u s′ → RecordCarriedOut (carryOut (recordOf 0 dot)) s nodes dots rects u nodes′ dots′ rects′ k
+    pub insert-splits : {k : ℕ} {s′ u : State} → a ≡ insert.Splits k s′ → Changed s u s′
+        → RecordCarriedOut (carryOut (recordOf 0 dot)) s nodes dots rects u nodes′ dots′ rects′ k
     insert-splits e c = insert-done _ e _ _ c refl
 
-  module _ (a : RemoveAnswer) (done : CarriedOut (removeRule (dot .id) (dot .rect)) s nodes dots rects (removeState s a) nodes′ dots′ rects′ (removeReply a)) where
-    remove-done : (b : RemoveAnswer) → a ≡ b → (u : State) (n : ℕ) → Changed s u (removeState s b) → n ≡ replyWord yesNo (removeReply b) → RecordCarriedOut (carryOut (recordOf 1 dot)) s nodes dots rects u nodes′ dots′ rects′ n
+  module _ (a : RemoveAnswer) (done : CarriedOut (removeRule (dot .id) (dot .rect)) s nodes dots rects (removeState s a) nodes′ dots′ rects′
+      (removeReply a)) where
+    remove-done : (b : RemoveAnswer) → a ≡ b → (u : State) (n : ℕ) → Changed s u (removeState s b) → n ≡ replyWord yesNo (removeReply b)
+        → RecordCarriedOut (carryOut (recordOf 1 dot)) s nodes dots rects u nodes′ dots′ rects′ n
     remove-done b e =
         by-changed yesNo (removeRule (dot .id) (dot .rect)) (recordOf 1 dot) (λ x. remove-record (recordOf 1 dot) x refl)
-        (subst (λ (v : RemoveAnswer). CarriedOut (removeRule (dot .id) (dot .rect)) s nodes dots rects (removeState s v) nodes′ dots′ rects′ (removeReply v)) e done) t
+        (subst (λ (v : RemoveAnswer). CarriedOut (removeRule (dot .id) (dot .rect)) s nodes dots rects (removeState s v) nodes′ dots′ rects′
+        (removeReply v)) e done) t
 
-    pub remove-refused : {k n : ℕ} → a ≡ remove.Refused k → n ≡ refusedWord k → RecordCarriedOut (carryOut (recordOf 1 dot)) s nodes dots rects s nodes′ dots′ rects′ n
+    pub remove-refused : {k n : ℕ} → a ≡ remove.Refused k → n ≡ refusedWord k
+        → RecordCarriedOut (carryOut (recordOf 1 dot)) s nodes dots rects s nodes′ dots′ rects′ n
     remove-refused e w = remove-done _ e s _ refl w
 
-    pub remove-yes : {s′ u : State} → a ≡ remove.Yes s′ → Changed s u s′ → RecordCarriedOut (carryOut (recordOf 1 dot)) s nodes dots rects u nodes′ dots′ rects′ 1
+    pub remove-yes : {s′ u : State} → a ≡ remove.Yes s′ → Changed s u s′
+        → RecordCarriedOut (carryOut (recordOf 1 dot)) s nodes dots rects u nodes′ dots′ rects′ 1
     remove-yes e c = remove-done _ e _ _ c refl
 
     pub remove-no : a ≡ remove.No → RecordCarriedOut (carryOut (recordOf 1 dot)) s nodes dots rects s nodes′ dots′ rects′ 0
     remove-no e = remove-done _ e s _ refl refl
 
 -- a cleanup's record may have any dot
-module _ {s : State} {nodes dots : List ℕ} {rects : List ℤ} (t : IsTree s nodes dots rects) (a : CleanupAnswer) (nodes′ : List ℕ) (done : CleanedUp s nodes nodes′ a) where
+module _ {s : State} {nodes dots : List ℕ} {rects : List ℤ} (t : IsTree s nodes dots rects) (a : CleanupAnswer) (nodes′ : List ℕ)
+    (done : CleanedUp s nodes nodes′ a) where
   cleanup-done : (b : CleanupAnswer) → a ≡ b → (u : State) (n : ℕ) → Changed s u (cleanupState s b)
       → n ≡ replyWord yesNo (cleanupReply b) → (dot : Dot) → RecordCarriedOut (carryOut (recordOf 2 dot)) s nodes dots rects u nodes′ dots rects n
   unfolding CleanedUp
   cleanup-done b e u n c k dot =
       by-changed yesNo cleanupRule (recordOf 2 dot) (λ x. cleanup-record (recordOf 2 dot) x refl)
-      (subst (λ (v : CleanupAnswer). CarriedOut cleanupRule s nodes dots rects (cleanupState s v) nodes′ dots rects (cleanupReply v)) e (done dots rects)) t u n c k
+      (subst (λ (v : CleanupAnswer). CarriedOut cleanupRule s nodes dots rects (cleanupState s v) nodes′ dots rects (cleanupReply v)) e
+      (done dots rects)) t u n c k
 
-  pub cleanup-refused : {k n : ℕ} → a ≡ cleanup.Refused k → n ≡ refusedWord k → (dot : Dot) → RecordCarriedOut (carryOut (recordOf 2 dot)) s nodes dots rects s nodes′ dots rects n
+  pub cleanup-refused : {k n : ℕ} → a ≡ cleanup.Refused k → n ≡ refusedWord k → (dot : Dot)
+      → RecordCarriedOut (carryOut (recordOf 2 dot)) s nodes dots rects s nodes′ dots rects n
   cleanup-refused e w = cleanup-done _ e s _ refl w
 
   pub cleanup-said : {yes? : Bool} {s′ u : State} {n : ℕ} → a ≡ cleanup.Done yes? s′ → Changed s u s′ → n ≡ yesNo yes?
@@ -132,14 +144,16 @@ module _ {s : State} {nodes dots : List ℕ} {rects : List ℤ} (t : IsTree s no
 -- ---- the kind of a record
 
 -- a record of another kind changes nothing
-pub other-kind : {s : State} {nodes dots : List ℕ} {rects : List ℤ} (r : Record) {n : ℕ} → ¬ (r .kind ≡ 0) → ¬ (r .kind ≡ 1) → ¬ (r .kind ≡ 2) → n ≡ refusedWord 9
+pub other-kind : {s : State} {nodes dots : List ℕ} {rects : List ℤ} (r : Record) {n : ℕ} → ¬ (r .kind ≡ 0) → ¬ (r .kind ≡ 1) → ¬ (r .kind ≡ 2)
+    → n ≡ refusedWord 9
     → RecordCarriedOut (carryOut r) s nodes dots rects s nodes dots rects n
 other-kind {s} {nodes} {dots} {rects} r a b c w marks x h =
     let e = sym (other-record r x a b c) in
     (subst (λ (z : Recorded). Holds (world s nodes dots rects marks) (z .shape)) e h, w ∙ ap (λ (z : Recorded). z .word) e)
 
 -- a record is one of its kind
-pub of-kind : (r : Record) (k : ℕ) → r .kind ≡ k → {s : State} {nodes dots : List ℕ} {rects : List ℤ} {s′ : State} {nodes′ dots′ : List ℕ} {rects′ : List ℤ} {n : ℕ}
+pub of-kind : (r : Record) (k : ℕ) → r .kind ≡ k
+    → {s : State} {nodes dots : List ℕ} {rects : List ℤ} {s′ : State} {nodes′ dots′ : List ℕ} {rects′ : List ℤ} {n : ℕ}
     → RecordCarriedOut (carryOut (recordOf k (r .dot))) s nodes dots rects s′ nodes′ dots′ rects′ n
     → RecordCarriedOut (carryOut r) s nodes dots rects s′ nodes′ dots′ rects′ n
 of-kind r k e {s} {nodes} {dots} {rects} {s′} {nodes′} {dots′} {rects′} {n} d =
@@ -193,11 +207,13 @@ module _ {s : State} {nodes dots : List ℕ} {rects : List ℤ} (t : IsTree s no
       → a ≡ insert.Refused k → k ≤ 255
   insert-word dot a done e = by-small (insertRule dot) (insert-small dot) t done k (ap insertReply e)
 
-  pub remove-word : (id : ℕ) (r : AABB) (a : RemoveAnswer) → CarriedOut (removeRule id r) s nodes dots rects (removeState s a) nodes′ dots′ rects′ (removeReply a)
+  pub remove-word : (id : ℕ) (r : AABB) (a : RemoveAnswer) → CarriedOut (removeRule id r) s nodes dots rects (removeState s a) nodes′ dots′ rects′
+      (removeReply a)
       → a ≡ remove.Refused k → k ≤ 255
   remove-word id r a done e = by-small (removeRule id r) (remove-small id r) t done k (ap removeReply e)
 
-pub cleanup-word : {s : State} {nodes dots : List ℕ} {rects : List ℤ} → IsTree s nodes dots rects → (a : CleanupAnswer) (nodes′ : List ℕ) → CleanedUp s nodes nodes′ a
+pub cleanup-word : {s : State} {nodes dots : List ℕ} {rects : List ℤ} → IsTree s nodes dots rects → (a : CleanupAnswer) (nodes′ : List ℕ)
+    → CleanedUp s nodes nodes′ a
     → {k : ℕ} → a ≡ cleanup.Refused k → k ≤ 255
 unfolding CleanedUp
 cleanup-word {dots = dots} {rects = rects} t a nodes′ done {k} e = by-small cleanupRule cleanup-small t (done dots rects) k (ap cleanupReply e)

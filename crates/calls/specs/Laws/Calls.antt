@@ -77,7 +77,8 @@ module _ {s : State} {nodes dots : List ℕ} {rects : List ℤ} {marks marks′ 
     pub all-refused : (refusal ≡ 0 → ⊥) → All (world s nodes dots rects marks) row (world s nodes dots rects marks′) row (refused refusal)
     all-refused ne = all-query _ _ _ _ _ .1 (query-refused (rootRect (s .settings)) row ne)
 
-    pub all-answered : refusal ≡ 0 → {q : AABB} → q ≡ rootRect (s .settings) → (row′ : List ℕ) (reply : Reply Found) → Queried s q nodes dots rects row row′ reply
+    pub all-answered : refusal ≡ 0 → {q : AABB} → q ≡ rootRect (s .settings) → (row′ : List ℕ) (reply : Reply Found)
+        → Queried s q nodes dots rects row row′ reply
         → All (world s nodes dots rects marks) row (world s nodes dots rects marks′) row′ reply
     all-answered z e row′ reply done =
         all-query _ _ _ _ _ .1

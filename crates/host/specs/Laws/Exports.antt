@@ -59,12 +59,18 @@ module _ (row nodes dots : List ℕ) (rects : List ℤ) (marks : List ℕ) where
   pub make-other : (length row ≡ 10 → ⊥) → Makes row nodes dots rects marks row nodes dots rects marks 1
   make-other ne = record { otherLength = λ _. (refl, refl, refl, refl, refl, refl); carriedOut = λ e. absurd (ne e) }
 
-  pub make-row : (s : Settings) (row′ nodes′ dots′ : List ℕ) (rects′ : List ℤ) (marks′ : List ℕ) (result : ℕ) (m : MakeAnswer) → length row ≡ 10 → s ≡ settingsIn row
+  pub make-row : (s : Settings) (row′ nodes′ dots′ : List ℕ) (rects′ : List ℤ) (marks′ : List ℕ) (result : ℕ) (m : MakeAnswer) → length row ≡ 10
+      → s ≡ settingsIn row
       → ((before : State) → Make (world before nodes dots rects marks) s (world (makeState before m) nodes′ dots′ rects′ marks′) (makeReply m))
       → result ≡ resultOf (makeReply m) → row′ ≡ madeRow m row → Makes row nodes dots rects marks row′ nodes′ dots′ rects′ marks′ result
   make-row s row′ nodes′ dots′ rects′ marks′ result m ten e made same written =
       record {
         otherLength = λ ne. absurd (ne ten);
-        carriedOut = λ _.
-            (m, (λ before. subst (λ (t : Settings). Make (world before nodes dots rects marks) t (world (makeState before m) nodes′ dots′ rects′ marks′) (makeReply m)) e (made before)), same, written);
+        carriedOut = λ _. (
+          m,
+          (λ before. subst (λ (t : Settings). Make (world before nodes dots rects marks) t
+              (world (makeState before m) nodes′ dots′ rects′ marks′) (makeReply m)) e (made before)),
+          same,
+          written,
+        );
       }

@@ -44,11 +44,13 @@ pub begun-records : (row : List ℕ) {words : ℕ} {s : State} {nodes dots : Lis
 begun-records row {words} {s} {nodes} {dots} {rects} {marks} {b} {marks′} e =
     subst (λ (n : ℕ). Begun n words s nodes dots rects marks b marks′) (sym (records-length row)) e
 
-pub stepped-record : (row : List ℕ) (i : ℕ) → i < length (recordsIn row) → {r : Record} {b : Batched} {answers nodes dots : List ℕ} {rects : List ℤ} {b′ : Batched} {answers′ nodes′ dots′ : List ℕ} {rects′ : List ℤ}
+pub stepped-record : (row : List ℕ) (i : ℕ) → i < length (recordsIn row)
+    → {r : Record} {b : Batched} {answers nodes dots : List ℕ} {rects : List ℤ} {b′ : Batched} {answers′ nodes′ dots′ : List ℕ} {rects′ : List ℤ}
     → r ≡ recordIn row i → Stepped r i b answers nodes dots rects b′ answers′ nodes′ dots′ rects′
     → Stepped (getD (recordsIn row) i noRecord) i b answers nodes dots rects b′ answers′ nodes′ dots′ rects′
 stepped-record row i l {r} {b} {answers} {nodes} {dots} {rects} {b′} {answers′} {nodes′} {dots′} {rects′} e d =
-    subst (λ (t : Record). Stepped t i b answers nodes dots rects b′ answers′ nodes′ dots′ rects′) (e ∙ sym (records-at row i (omega (arith, l, records-length row)))) d
+    subst (λ (t : Record). Stepped t i b answers nodes dots rects b′ answers′ nodes′ dots′ rects′) (e
+    ∙ sym (records-at row i (omega (arith, l, records-length row)))) d
 
 pub batch-refused : (b : Batched) → (b .refusal ≡ 0 → ⊥) → batchReply b ≡ refused (b .refusal)
 unfolding batchReply

@@ -35,7 +35,8 @@ module _ (l : List ℕ) (a : ℕ) (v : Node) (h : HasNode l a) where
       let m = set l (2 * a + 0) (v .first) in
       changed-by (λ k. getD l (2 * k + 0) 0) (λ k. getD (set m (2 * a + 1) (v .count)) (2 * k + 0) 0) a (v .first)
       (getD-set-other m (2 * a + 1) (2 * a + 0) (v .count) 0 (λ e. omega arith) ∙ getD-set-same l (2 * a + 0) (v .first) 0 (omega arith))
-      (λ k ne. getD-set-other m (2 * a + 1) (2 * k + 0) (v .count) 0 (λ e. omega arith) ∙ getD-set-other l (2 * a + 0) (2 * k + 0) (v .first) 0 (λ e. ne (omega arith)))
+      (λ k ne. getD-set-other m (2 * a + 1) (2 * k + 0) (v .count) 0 (λ e. omega arith) ∙ getD-set-other l (2 * a + 0) (2 * k + 0) (v .first) 0
+      (λ e. ne (omega arith)))
 
   pub count-set : countAt (setNodeAt l a v) ≡ changed (countAt l) a (v .count)
   unfolding countAt setNodeAt
@@ -43,7 +44,8 @@ module _ (l : List ℕ) (a : ℕ) (v : Node) (h : HasNode l a) where
       let m = set l (2 * a + 0) (v .first) in
       changed-by (λ k. getD l (2 * k + 1) 0) (λ k. getD (set m (2 * a + 1) (v .count)) (2 * k + 1) 0) a (v .count)
       (getD-set-same m (2 * a + 1) (v .count) 0 (omega (arith, length-set l (2 * a + 0) (v .first))))
-      (λ k ne. getD-set-other m (2 * a + 1) (2 * k + 1) (v .count) 0 (λ e. ne (omega arith)) ∙ getD-set-other l (2 * a + 0) (2 * k + 1) (v .first) 0 (λ e. omega arith))
+      (λ k ne. getD-set-other m (2 * a + 1) (2 * k + 1) (v .count) 0 (λ e. ne (omega arith)) ∙ getD-set-other l (2 * a + 0) (2 * k + 1) (v .first) 0
+      (λ e. omega arith))
 
 pub node-length : (l : List ℕ) (a : ℕ) (v : Node) → length (setNodeAt l a v) ≡ length l
 unfolding setNodeAt

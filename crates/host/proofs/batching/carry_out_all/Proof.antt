@@ -16,7 +16,8 @@ use Rattle.host.proofs.batching.carry_out_all.Tie as tie
 
 abbrev Inv-loop : tie.InvT-loop
 Inv-loop nodes₀ dots₀ rects₀ marks records answers₀ many batched₀ count i₀ nodes dots rects answers batched i =
-    (i ≤ count) × (batched .count ≡ count) × (length answers ≡ length answers₀) × (length nodes ≡ length nodes₀) × (length dots ≡ length dots₀) × (length rects ≡ length rects₀)
+    (i ≤ count) × (batched .count ≡ count) × (length answers ≡ length answers₀) × (length nodes ≡ length nodes₀) × (length dots ≡ length dots₀)
+    × (length rects ≡ length rects₀)
     × ((s : State) (before : List ℕ) → Begun (length (recordsIn records)) (length answers₀) s nodes₀ dots₀ rects₀ before batched₀ marks
     → Progress (recordsIn records) s answers₀ nodes₀ dots₀ rects₀ before i (words batched answers nodes dots rects marks))
 
@@ -33,7 +34,11 @@ record-in-requires c κs =
     let at-start : tie.Start Inv-loop μ-loop = search in
     let row = at-start .args .records .now in
     let p = c .before .loop .inv .6 _ _ (begun-records row (at-begin .begin .ensures)) in
-    omega (arith, progress-ready _ _ _ _ _ _ _ _ _ p (c .before .loop .inv .2) (omega (arith, c .loop-test .taken, c .before .loop .inv .1)) .0, records-length row)
+    omega (
+      arith,
+      progress-ready _ _ _ _ _ _ _ _ _ p (c .before .loop .inv .2) (omega (arith, c .loop-test .taken, c .before .loop .inv .1)) .0,
+      records-length row,
+    )
 
 one-requires : tie.Need-one-requires Inv-loop μ-loop
 one-requires c κs =
@@ -65,7 +70,8 @@ loop-again c =
     let at-record-in : tie.After-record-in Inv-loop μ-loop = search in
     let at-loop : tie.In-loop Inv-loop μ-loop = search in
     let at-loop' : tie.At-loop Inv-loop μ-loop = search in
-    let at-start : tie.Start Inv-loop μ-loop = at-loop' .before .before .before .before .before .before .before .before .before .before .before .before .before in
+    let at-start : tie.Start Inv-loop μ-loop
+    = at-loop' .before .before .before .before .before .before .before .before .before .before .before .before .before in
     let row = at-start .args .records .now in
     let more = at-loop .loop-test .taken in
     let l = at-loop' .loop in
@@ -100,7 +106,8 @@ returns c =
     let at-begin : tie.After-begin Inv-loop μ-loop = search in
     let at-start : tie.Start Inv-loop μ-loop = search in
     let row = at-start .args .records .now in
-    progress-done _ _ _ _ _ _ _ _ _ (c .before .loop .inv .6 _ _ (begun-records row (at-begin .begin .ensures))) (omega (arith, c .before .loop .inv, c .loop-test .left))
+    progress-done _ _ _ _ _ _ _ _ _ (c .before .loop .inv .6 _ _ (begun-records row (at-begin .begin .ensures)))
+    (omega (arith, c .before .loop .inv, c .loop-test .left))
 
 pub carry-out-all-spec : {M : Type 1} → statement M
 carry-out-all-spec =

@@ -19,7 +19,15 @@ returns c =
     let top = got w32 (at-signed2 .signed2 .ok) (at-signed2 .signed2 .ensures) in
     let width = got w32 (at-signed3 .signed3 .ok) (at-signed3 .signed3 .ensures) in
     let height = got w32 (c .before .before .before .signed4 .ok) (c .before .before .before .signed4 .ensures) in
-    λ i. record { left = left i; top = top i; width = width i; height = height i; «depth_limit» = getD row 4 0; «leaf_limit» = getD row 5 0; «smallest_cell» = getD row 6 0 }
+    λ i. record {
+      left = left i;
+      top = top i;
+      width = width i;
+      height = height i;
+      «depth_limit» = getD row 4 0;
+      «leaf_limit» = getD row 5 0;
+      «smallest_cell» = getD row 6 0;
+    }
 
 pub settings-in-spec : {M : Type 1} → statement M
 settings-in-spec =

@@ -53,7 +53,8 @@ loop-again c =
     let has = at-loop' .loop .inv in (
       c .before .before .set-node .kept .0 ∙ has .0,
       omega (arith, at-loop .loop-test .taken),
-      λ k b. rw (c .before .before .set-node .ensures) (fresh-node-more _ _ _ (omega (arith, at-start .pre .1, at-loop .loop-test .taken, has .0)) (has .2) _ (c .before .before .before .fresh-node .ensures) k b),
+      λ k b. rw (c .before .before .set-node .ensures) (fresh-node-more _ _ _ (omega (arith, at-start .pre .1, at-loop .loop-test .taken, has .0))
+          (has .2) _ (c .before .before .before .fresh-node .ensures) k b),
     )
 
 same-length : tie.Need-same-length Inv-loop μ-loop

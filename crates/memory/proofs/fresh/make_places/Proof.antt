@@ -23,8 +23,10 @@ loop-holds c = (refl, refl, omega arith, λ k b. absurd (omega arith))
 
 set-dot-requires : tie.Need-set-dot-requires Inv-loop μ-loop
 set-dot-requires c κs =
-    let at-start : tie.Start Inv-loop μ-loop = search in
-    (omega (arith, at-start .pre .1, c .before .before .loop-test .taken, c .before .before .before .loop .inv .0), omega (arith, at-start .pre .2, c .before .before .loop-test .taken, c .before .before .before .loop .inv .1))
+    let at-start : tie.Start Inv-loop μ-loop = search in (
+      omega (arith, at-start .pre .1, c .before .before .loop-test .taken, c .before .before .before .loop .inv .0),
+      omega (arith, at-start .pre .2, c .before .before .loop-test .taken, c .before .before .before .loop .inv .1),
+    )
 
 fresh-next-requires : tie.Need-fresh-next-requires Inv-loop μ-loop
 fresh-next-requires c κs =
@@ -62,7 +64,9 @@ loop-again c =
       c .before .before .set-next .kept .0 ∙ at-set-dot .set-dot .kept .0 ∙ has .0,
       at-set-dot .set-dot .kept .1 .0 ∙ has .1,
       omega (arith, at-loop .loop-test .taken),
-      λ k b. rw (c .before .before .set-next .ensures, at-set-dot .set-dot .ensures .0, at-set-dot .set-dot .ensures .1) (fresh-place-more _ _ _ _ (omega (arith, at-start .pre .1, has .0)) (omega (arith, at-start .pre .2, has .1)) (has .3) _ (c .before .before .before .fresh-next .ensures) k b),
+      λ k b. rw (c .before .before .set-next .ensures, at-set-dot .set-dot .ensures .0, at-set-dot .set-dot .ensures .1)
+          (fresh-place-more _ _ _ _ (omega (arith, at-start .pre .1, has .0)) (omega (arith, at-start .pre .2, has .1)) (has .3) _
+          (c .before .before .before .fresh-next .ensures) k b),
     )
 
 same-length : tie.Need-same-length Inv-loop μ-loop
