@@ -2,7 +2,8 @@
 // A refusal keeps state, nodes, dots and answers; 1 and 2 keep the marks too, 3 leaves them 0.
 use crate::calls::{Call, UNWRITTEN};
 use crate::krakvinge::Rows;
-use crate::random::{short, Random};
+use crate::lists::short;
+use crate::random::Random;
 
 const ROUNDS: u32 = 3_000;
 

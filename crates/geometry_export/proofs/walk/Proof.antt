@@ -16,5 +16,6 @@ pub walk-spec : {M : Type 1} → statement M
 walk-spec =
     tie.close
     (tie.spec Inv-loop μ-loop
-    (λ c κs. search needs) (λ c. (omega arith, search walk-start)) (λ c. search needs) (λ c. search needs) (λ c κs. search needs) (λ c. search needs) (λ c. search needs)
+    (λ c κs. search needs) (λ c. (omega arith, search walk-start))
+    (λ c. search needs) (λ c. search needs) (λ c κs. search needs) (λ c. search needs) (λ c. search needs)
     (λ c. (omega arith, search walk-step)) (λ c. search walk-end))
