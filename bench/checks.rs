@@ -3,8 +3,8 @@ use crate::field::{Order, DIAGONAL};
 use crate::inserts;
 use crate::krakvinge::{Record, Rows, Settings};
 use crate::original;
-use crate::plain::Random;
 use crate::port;
+use crate::random::Random;
 use crate::time::Best;
 use std::hint::black_box;
 

@@ -1,6 +1,6 @@
 // Halftone fields, and the orders in which their dots are inserted.
 use crate::krakvinge::{Record, Settings};
-use crate::plain::Random;
+use crate::random::Random;
 
 pub const PITCH: i32 = 10;
 const DOT: i32 = 6;

@@ -7,11 +7,11 @@ mod inserts;
 #[allow(dead_code)]
 mod krakvinge;
 mod original;
-#[path = "../tests/memory/plain.rs"]
-#[allow(dead_code)]
-mod plain;
 mod port;
 mod queries;
+#[allow(dead_code)]
+#[path = "../tests/random.rs"]
+mod random;
 mod time;
 
 include!(concat!(env!("ORIGINAL"), "/modules.rs"));

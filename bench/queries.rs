@@ -2,9 +2,9 @@
 use crate::field::{Order, DIAGONAL, PITCH};
 use crate::krakvinge::{Record, Rect, Rows, Settings};
 use crate::original;
-use crate::plain::Random;
 use crate::port;
 use crate::quadtree::AABB;
+use crate::random::Random;
 use crate::time::{Best, Ratios};
 use std::hint::black_box;
 

@@ -2,8 +2,9 @@
 use crate::calls::{Answer, Call, List, UNWRITTEN};
 use crate::faults::Fault;
 use crate::krakvinge::{Record, Rows};
+use crate::lists;
 use crate::port::Port;
-use crate::random::{self, Random};
+use crate::random::Random;
 
 const LISTS: u32 = 4_000;
 const SEED: u64 = 31;
@@ -116,7 +117,7 @@ fn differ(list: &List, random: &mut Random, planted: Planted, counts: &mut Count
 
 fn find(planted: Planted) -> bool {
     let mut random = Random(SEED);
-    let found = (0..LISTS).any(|_| differ(&random::short(&mut random), &mut random, planted, &mut Counts::default()).is_some());
+    let found = (0..LISTS).any(|_| differ(&lists::short(&mut random), &mut random, planted, &mut Counts::default()).is_some());
     if !found {
         println!("differential: {planted:?}, planted in a batch, was NOT FOUND");
     }
@@ -126,7 +127,7 @@ fn find(planted: Planted) -> bool {
 pub fn as_single_calls() -> bool {
     let (mut random, mut counts) = (Random(SEED), Counts::default());
     for _ in 0..LISTS {
-        let list = random::short(&mut random);
+        let list = lists::short(&mut random);
         if let Some(text) = differ(&list, &mut random, Planted::Nothing, &mut counts) {
             println!("differential: DIFFERENCE between a batch and single calls: {text}");
             return false;

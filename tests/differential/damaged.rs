@@ -2,7 +2,8 @@
 // What a refusal keeps is §11.7: all, but that after 3 the marks are 0.
 use crate::calls::{Call, UNWRITTEN};
 use crate::krakvinge::Rows;
-use crate::random::{short, Random};
+use crate::lists::short;
+use crate::random::Random;
 
 const ROUNDS: u32 = 3_000;
 

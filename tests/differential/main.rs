@@ -16,8 +16,10 @@ mod geometry;
 #[path = "../../host/rust/krakvinge.rs"]
 #[allow(dead_code)]
 mod krakvinge;
+mod lists;
 mod original;
 mod port;
+#[path = "../random.rs"]
 mod random;
 
 include!(concat!(env!("ORIGINAL"), "/modules.rs"));
@@ -35,7 +37,7 @@ const FAULT_LISTS: u32 = 3_000;
 fn compare_lists(calls: u64, seed: u64) -> bool {
     let (mut random, mut counts, mut lists, mut long) = (Random(seed), Counts::default(), 0u64, 0u64);
     while counts.calls < calls {
-        let list = if counts.calls >= long * LONG_EVERY { random::long(&mut random) } else { random::short(&mut random) };
+        let list = if counts.calls >= long * LONG_EVERY { lists::long(&mut random) } else { lists::short(&mut random) };
         let is_long = list.places > 1000;
         long += is_long as u64;
         lists += 1;
@@ -58,7 +60,7 @@ fn compare_lists(calls: u64, seed: u64) -> bool {
 // Lists until one differs.
 fn find(fault: Fault) -> Option<(u32, List)> {
     let mut random = Random(SEED);
-    (1..=FAULT_LISTS).map(|n| (n, random::short(&mut random))).find(|(_, list)| compare::differ(list, fault, 8, |_, _| {}).is_some())
+    (1..=FAULT_LISTS).map(|n| (n, lists::short(&mut random))).find(|(_, list)| compare::differ(list, fault, 8, |_, _| {}).is_some())
 }
 
 fn find_faults() -> bool {
@@ -93,7 +95,7 @@ fn record() -> bool {
     let mut random = Random(7);
     let mut size = 0;
     while size < 300_000 {
-        let mut list = random::short(&mut random);
+        let mut list = lists::short(&mut random);
         list.calls.truncate(150);
         let mut text = list.head() + "\n";
         let difference = compare::differ(&list, Fault::None, 150, |call, answer| {

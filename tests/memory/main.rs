@@ -4,8 +4,12 @@ mod exports;
 #[allow(dead_code)]
 mod krakvinge;
 mod plain;
+#[allow(dead_code)]
+#[path = "../random.rs"]
+mod random;
 
-use plain::{Memory, Random, Rect, Settings, BRANCH, NONE};
+use plain::{Memory, Rect, Settings, BRANCH, NONE};
+use random::Random;
 
 const ROUNDS: u64 = 400000;
 

@@ -1,5 +1,6 @@
 // What both are asked: settings, cells by a path of children, and rectangles.
 use crate::original;
+use crate::random::Random;
 use std::fmt;
 
 pub type Rect = [i32; 4];
@@ -91,23 +92,10 @@ const ROOTS: [Rect; 14] = [
 const DEPTHS: [u32; 6] = [0, 1, 2, 7, 31, 255];
 const CELLS: [u32; 8] = [1, 2, 3, 7, 1000, 536870912, 1073741823, 2147483647];
 
-struct Random(u64);
-
 impl Random {
-    fn below(&mut self, n: u64) -> u64 {
-        self.0 ^= self.0 << 13;
-        self.0 ^= self.0 >> 7;
-        self.0 ^= self.0 << 17;
-        (self.0 >> 11) % n
-    }
-
-    fn pick<T: Copy>(&mut self, row: &[T]) -> T {
-        row[self.below(row.len() as u64) as usize]
-    }
-
     // Any number from low to high.
-    fn between(&mut self, low: i32, high: i32) -> i32 {
-        (low as i64 + self.below((high as i64 - low as i64 + 1) as u64) as i64) as i32
+    fn number(&mut self, low: i32, high: i32) -> i32 {
+        self.between(low as i64, high as i64) as i32
     }
 
     fn root(&mut self) -> Rect {
@@ -115,9 +103,9 @@ impl Random {
             return self.pick(&ROOTS);
         }
         let reach = self.pick(&[4, 100, 1 << 20, HIGH]);
-        let (left, top) = (self.between(-reach, reach), self.between(-reach, reach));
+        let (left, top) = (self.number(-reach, reach), self.number(-reach, reach));
         let size = |low: i32| (HIGH as i64 - low as i64).min(2 * reach as i64) as i32;
-        [left, top, self.between(0, size(left)), self.between(0, size(top))]
+        [left, top, self.number(0, size(left)), self.number(0, size(top))]
     }
 
     fn settings(&mut self) -> Settings {
@@ -152,11 +140,11 @@ impl Random {
             0..=2 => center,
             3 => center - half,
             4 => center + half,
-            5 => self.between(center - half, center + half),
+            5 => self.number(center - half, center + half),
             6 => return self.pick(&[LOW, LOW + 1, -1, 0, 1, HIGH - 1, HIGH]),
-            _ => return self.between(LOW, HIGH),
+            _ => return self.number(LOW, HIGH),
         };
-        (near + self.between(-1, 1)).clamp(LOW, HIGH)
+        (near + self.number(-1, 1)).clamp(LOW, HIGH)
     }
 
     // Rectangles of any kind: points, lines and inverted ones are common.

@@ -1,3 +1,3 @@
 -- Tools that the functions' proofs share.
-pub mod Numbers
+--     Paths        a walk along a row's first 255 children
 pub mod Paths

@@ -1,8 +1,8 @@
 -- A walk along a row's first 255 children: where it stands after i of them, and what a whole walk reaches.
 --     walk-start, walk-step, walk-end      at the start, one child on, and at the end
---     root-walks, reached-in, reached-out      from the root of accepted settings, and of others
+--     root-accepted, root-walks, reached-in, reached-out      from the root of accepted settings, and of others
 use mathlib.Core.Path.{_≡_, refl, sym, ap, _∙_, subst}
-use mathlib.Core.Bool.{true, false}
+use mathlib.Core.Bool.{Bool, true, false}
 use mathlib.Core.List.{List, [], _∷_}
 use Prim.Native.Nat.{ℕ, _+_, _≤_, _<_, min}
 use native.Mathlib.Numerals.{add-one}
@@ -37,8 +37,9 @@ unfolding dataAlong
 one n l i h = rw (add-one, drop-cons l i 0 h)
 
 module _ (start : NodeData) (path : List ℕ) (node : NodeData) (i : ℕ) (w : Walked start path node i) where
-  pub walk-step : (next : NodeData) → next ≡ childData node (getD path i 0) → i < min 255 (length path) → Walked start path next (i + 1)
-  walk-step next e h =
+  pub walk-step : (next : NodeData) (end : ℕ) → next ≡ childData node (getD path i 0) → end ≡ min 255 (length path) → i < end
+      → Walked start path next (i + 1)
+  walk-step next end e m h =
       let k = getD path i 0 in
       let inside : i < length (take 255 path) = omega (arith, length-take 255 path) in
       let same : getD (take 255 path) i 0 ≡ k = getD-take 255 path i 0 (omega arith) in
@@ -49,21 +50,26 @@ module _ (start : NodeData) (path : List ℕ) (node : NodeData) (i : ℕ) (w : W
         along = w .along ∙ one node (take 255 path) i inside ∙ ap (λ (j : ℕ). dataAlong (childData node j) (drop (i + 1) (take 255 path))) same;
       })
 
-  pub walk-end : min 255 (length path) ≤ i → node ≡ dataAlong start (take 255 path)
+  pub walk-end : (end : ℕ) → end ≡ min 255 (length path) → end ≤ i → node ≡ dataAlong start (take 255 path)
   unfolding dataAlong
-  walk-end h =
+  walk-end end m h =
       let out : length (take 255 path) ≤ i = omega (arith, length-take 255 path) in
       sym (w .along ∙ ap (λ (l : List ℕ). dataAlong node l) (drop-of-length-le (take 255 path) out))
 
-pub root-walks : (s : Settings) (n : NodeData) → inRange s ≡ true → n ≡ rootData s → InRange (n .cell) × (n .depth ≡ 0)
+-- the tests of the settings, as the code has them
+pub root-accepted : (s : Settings) (t : Bool) → t ≡ inRange s → t ≡ true → inRange s ≡ true
+root-accepted s t e ok = sym e ∙ ok
+
+pub root-walks : (s : Settings) (n : NodeData) (t : Bool) → t ≡ inRange s → t ≡ true → n ≡ rootData s → InRange (n .cell) × (n .depth ≡ 0)
 unfolding rootData
-root-walks s n ok e = subst (λ (n : NodeData). InRange (n .cell) × (n .depth ≡ 0)) (sym e) (root-range s (accepted s ok .root), refl)
+root-walks s n t in? ok e =
+    subst (λ (n : NodeData). InRange (n .cell) × (n .depth ≡ 0)) (sym e) (root-range s (accepted s (sym in? ∙ ok) .root), refl)
 
-module _ (s : Settings) (path : List ℕ) where
-  pub reached-in : (n r : NodeData) → inRange s ≡ true → n ≡ rootData s → r ≡ dataAlong n (take 255 path) → r ≡ reached s path
+module _ (s : Settings) (path : List ℕ) (t : Bool) (in? : t ≡ inRange s) where
+  pub reached-in : (n r : NodeData) → t ≡ true → n ≡ rootData s → r ≡ dataAlong n (take 255 path) → r ≡ reached s path
   unfolding reached
-  reached-in n r ok e w = rw ok (w ∙ ap (λ (n : NodeData). dataAlong n (take 255 path)) e)
+  reached-in n r ok e w = rw (sym in? ∙ ok) (w ∙ ap (λ (n : NodeData). dataAlong n (take 255 path)) e)
 
-  pub reached-out : inRange s ≡ false → zeroData ≡ reached s path
+  pub reached-out : t ≡ false → zeroData ≡ reached s path
   unfolding reached
-  reached-out outside = rw outside refl
+  reached-out outside = rw (sym in? ∙ outside) refl

@@ -1,4 +1,8 @@
 -- Laws of text and of its reading.
+--     Digits       decimal numbers, printed and read
+--     Fields       fields, found and read one after another
+--     Lines        the lines of calls
+--     Rows         bytes put into a row: digits, fields, answers
 pub mod Digits
 pub mod Fields
 pub mod Lines

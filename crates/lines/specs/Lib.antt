@@ -1,4 +1,8 @@
--- Lines as bytes: numbers, fields and calls by their text, and what it means to read them; Laws shows that reading and text agree.
+-- Lines as bytes.
+--     Text         numbers, fields and answers by their text
+--     Reading      what it means to read a part of a line, and to put bytes into a row
+--     Lines        the lines of calls: THE STATEMENT of what a line is
+--     Laws         reading and text agree
 pub mod Text
 pub mod Reading
 pub mod Lines

@@ -1,6 +1,6 @@
 -- What bounds are for.
---     bounds-child-0   child 0 keeps the bounds
---     bounds-below     of a rectangle that is not inverted: to lie within the bounds of a child 1 to 4 is to lie within the parent's and to be routed to that child
+--     bounds-below     of a rectangle that is not inverted: to lie within the bounds of a child 1 to 4 is to lie within the parent's
+--                      and to be routed to that child
 --     bounds-all       a rectangle that is not far out lies within the root's bounds
 use mathlib.Core.Path.{_≡_, refl, sym, _∙_, ap, ap₂}
 use mathlib.Core.Bool.{Bool, true, false, not, cond, _&&_, _||_}
@@ -13,7 +13,7 @@ use borrow.Author.Tests.{ne-eqb, not-false}
 use Rattle.arithmetic.specs.Ints.{maxZ, minZ}
 use Rattle.arithmetic.specs.Tests.{byBool, true-false}
 use Rattle.arithmetic.specs.Cases.{all-four, sameBool, same-bool}
-use Rattle.arithmetic.specs.Linear.{ints, same-test, and-t}
+use Rattle.arithmetic.specs.Linear.{ints, and-t}
 use Rattle.geometry.specs.declared.aabb.AABB.{AABB}
 use Rattle.geometry.specs.declared.centered_aabb.CenteredAABB.{CenteredAABB}
 use Rattle.geometry.specs.declared.bounds.Bounds.{Bounds}
@@ -21,25 +21,29 @@ use Rattle.geometry.specs.Rectangles.{inverted, near, farOut}
 use Rattle.geometry.specs.Cells.{quadrant, routeCell}
 use Rattle.geometry.specs.Bounds.{allBounds, quarterBounds, boundsBelow, inSpan, inBounds}
 
-pub bounds-child-0 : (b : Bounds) (c : CenteredAABB) → boundsBelow b c 0 ≡ b
-unfolding boundsBelow
-bounds-child-0 b c = refl
-
 -- ---- one axis
+
+-- of two tests, one that implies the other is both
+and-left : (s t : Bool) → (s ≡ true → t ≡ true) → s ≡ s && t
+and-left true t f = sym (f refl)
+and-left false t f = refl
+
+and-right : (s t : Bool) → (t ≡ true → s ≡ true) → t ≡ s && t
+and-right s true f = rw (f refl) refl
+and-right true false f = refl
+and-right false false f = refl
 
 lt-max : (a b c : ℤ) → ltZ (maxZ a b) c ≡ ltZ a c && ltZ b c
 unfolding maxZ
 lt-max a b c =
-    byBool (ltZ a b)
-    (λ e. rw e (same-test (ltZ b c) (ltZ a c && ltZ b c) (λ h. let k : ltZ a c ≡ true = omega (arith, ints) in rw (k, h) refl) (λ h. and-t (ltZ a c) (ltZ b c) h .1)))
-    (λ e. rw e (same-test (ltZ a c) (ltZ a c && ltZ b c) (λ h. let k : ltZ b c ≡ true = omega (arith, ints) in rw (h, k) refl) (λ h. and-t (ltZ a c) (ltZ b c) h .0)))
+    byBool (ltZ a b) (λ e. rw e (and-right (ltZ a c) (ltZ b c) (λ h. omega (arith, ints))))
+    (λ e. rw e (and-left (ltZ a c) (ltZ b c) (λ h. omega (arith, ints))))
 
 le-min : (a b c : ℤ) → leZ c (minZ a b) ≡ leZ c a && leZ c b
 unfolding minZ
 le-min a b c =
-    byBool (ltZ b a)
-    (λ e. rw e (same-test (leZ c b) (leZ c a && leZ c b) (λ h. let k : leZ c a ≡ true = omega (arith, ints) in rw (k, h) refl) (λ h. and-t (leZ c a) (leZ c b) h .1)))
-    (λ e. rw e (same-test (leZ c a) (leZ c a && leZ c b) (λ h. let k : leZ c b ≡ true = omega (arith, ints) in rw (h, k) refl) (λ h. and-t (leZ c a) (leZ c b) h .0)))
+    byBool (ltZ b a) (λ e. rw e (and-right (leZ c a) (leZ c b) (λ h. omega (arith, ints))))
+    (λ e. rw e (and-left (leZ c a) (leZ c b) (λ h. omega (arith, ints))))
 
 -- on one side of the centre
 abbrev onSide : Bool → ℤ → ℤ → ℤ → Bool
@@ -49,7 +53,8 @@ regroup : (a b c d : Bool) → (a && b) && (c && d) ≡ (a && c) && (b && d)
 regroup a b c d = same-bool _ _ (all-four (λ a b c d. sameBool ((a && b) && (c && d)) ((a && c) && (b && d))) refl a b c d)
 
 span-side : (upper : Bool) (over upto centre first second : ℤ)
-    → inSpan (cond upper (maxZ over centre) over) (cond upper upto (minZ upto centre)) first second ≡ inSpan over upto first second && onSide upper centre first second
+    → inSpan (cond upper (maxZ over centre) over) (cond upper upto (minZ upto centre)) first second
+    ≡ inSpan over upto first second && onSide upper centre first second
 span-side true over upto centre first second =
     ap (λ (t : Bool). t && leZ second upto) (lt-max over centre first)
     ∙ same-bool _ _ (all-four (λ a b c d. sameBool ((a && b) && c) ((a && c) && b)) refl (ltZ over first) (ltZ centre first) (leZ second upto) true)
@@ -89,8 +94,8 @@ side-not : (upper : Bool) (centre first second : ℤ) → onSide upper centre fi
 side-not true centre first second = lt-not first centre
 side-not false centre first second = le-not centre second
 
-reaches : (centre first second : ℤ) → ltZ second first ≡ false → leZ first centre || ltZ centre second ≡ true
-reaches centre first second e =
+one-side : (centre first second : ℤ) → ltZ second first ≡ false → leZ first centre || ltZ centre second ≡ true
+one-side centre first second e =
     byBool (leZ first centre) (λ h. rw h refl) (λ h. let k : ltZ centre second ≡ true = omega (arith, ints) in rw (h, k) refl)
 
 or-f : (s t : Bool) → s || t ≡ false → (s ≡ false) × (t ≡ false)
@@ -107,10 +112,14 @@ bounds-below b c i one five r up =
     let low = leb 3 i in
     let upright = or-f (ltZ (r .x2) (r .x1)) (ltZ (r .y2) (r .y1)) up in
     let other : eqb i 0 ≡ false = ne-eqb i 0 (λ e. omega arith) in
-    let child = child-sided i one five (leZ (r .x1) x) (ltZ x (r .x2)) (leZ (r .y1) y) (ltZ y (r .y2)) (reaches x (r .x1) (r .x2) (upright .0)) (reaches y (r .y1) (r .y2) (upright .1)) in
+    let across = one-side x (r .x1) (r .x2) (upright .0) in
+    let down = one-side y (r .y1) (r .y2) (upright .1) in
+    let child = child-sided i one five (leZ (r .x1) x) (ltZ x (r .x2)) (leZ (r .y1) y) (ltZ y (r .y2)) across down in
+    let spanX = inSpan (b .«x_over») (b .«x_upto») (r .x1) (r .x2) in
+    let spanY = inSpan (b .«y_over») (b .«y_upto») (r .y1) (r .y2) in
     rw other
     (ap₂ _&&_ (span-side right (b .«x_over») (b .«x_upto») x (r .x1) (r .x2)) (span-side low (b .«y_over») (b .«y_upto») y (r .y1) (r .y2))
-    ∙ regroup (inSpan (b .«x_over») (b .«x_upto») (r .x1) (r .x2)) (onSide right x (r .x1) (r .x2)) (inSpan (b .«y_over») (b .«y_upto») (r .y1) (r .y2)) (onSide low y (r .y1) (r .y2))
+    ∙ regroup spanX (onSide right x (r .x1) (r .x2)) spanY (onSide low y (r .y1) (r .y2))
     ∙ ap (λ (t : Bool). inBounds b r && t) (ap₂ _&&_ (side-not right x (r .x1) (r .x2)) (side-not low y (r .y1) (r .y2)) ∙ sym child))
 
 -- ---- the root

@@ -1,12 +1,9 @@
 -- By whether the child is 0.
-use borrow.Author.Tests.{eq-eqb, ne-eqb}
 use mathlib.Core.Path.{sym}
+use borrow.Author.Tests.{eq-eqb, ne-eqb}
 use borrow.Author.Needs.{needs}
 use Rattle.geometry.proofs.node_data.child_depth.Statement.{statement}
 use Rattle.geometry.proofs.node_data.child_depth.Tie as tie
-
-add-result : tie.Need-add-result
-add-result c = search needs
 
 returns : tie.Need-returns
 returns c = sym (rw (eq-eqb (c .before .args .child) 0 (c .if1 .taken)))
@@ -15,4 +12,6 @@ returns-2 : tie.Need-returns-2
 returns-2 c = sym (rw (ne-eqb (c .before .args .child) 0 (c .if1 .left)))
 
 pub child-depth-spec : {M : Type 1} → statement M
-child-depth-spec = tie.close (tie.spec add-result returns returns-2)
+child-depth-spec =
+    tie.close
+    (tie.spec (λ c. search needs) returns returns-2)

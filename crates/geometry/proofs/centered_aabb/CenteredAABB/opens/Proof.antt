@@ -1,19 +1,13 @@
 -- Child 0, or the child's bit, by the law of codes.
-use mathlib.Core.Bool.{_||_}
-use mathlib.Core.Path.{_∙_, ap}
 use Prim.Native.Nat.{ℕ}
+use mathlib.Core.Bool.{_||_}
+use mathlib.Core.Path.{ap, _∙_}
 use lib.Dec.{eqb}
+use borrow.Author.Needs.{needs}
 use Rattle.geometry.specs.Cells.{bitAt}
 use Rattle.geometry.specs.Laws.Codes.{opens-code}
-use borrow.Author.Needs.{needs}
 use Rattle.geometry.proofs.centered_aabb.CenteredAABB.opens.Statement.{statement}
 use Rattle.geometry.proofs.centered_aabb.CenteredAABB.opens.Tie as tie
-
-explore-quadrants-requires : tie.Need-explore-quadrants-requires
-explore-quadrants-requires c κs = search needs
-
-at-requires : tie.Need-at-requires
-at-requires c κs = search needs
 
 returns : tie.Need-returns
 returns c =
@@ -23,4 +17,6 @@ returns c =
     (λ j. eqb i 0 || bit j) ∙ opens-code (a .self) (a .query) i
 
 pub opens-spec : {M : Type 1} → statement M
-opens-spec = tie.close (tie.spec explore-quadrants-requires at-requires returns)
+opens-spec =
+    tie.close
+    (tie.spec (λ c κs. search needs) (λ c κs. search needs) returns)

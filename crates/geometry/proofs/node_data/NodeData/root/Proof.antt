@@ -1,16 +1,15 @@
 -- The root's cell at depth 0.
-use mathlib.Core.Bool.{false}
+use borrow.Author.Needs.{needs}
 use Rattle.geometry.specs.Cells.{rootData}
 use Rattle.geometry.specs.Laws.Ranges.{accepted}
 use Rattle.geometry.proofs.node_data.NodeData.root.Statement.{statement}
 use Rattle.geometry.proofs.node_data.NodeData.root.Tie as tie
 
-root-requires : tie.Need-root-requires
-root-requires c κs = accepted (c .args .settings) (c .pre) .root
-
 returns : tie.Need-returns
 unfolding rootData
-returns c = λ i. record { cell = c .root .ensures i; depth = 0; «is_child_0» = false }
+returns c = search (needs, c .root .ensures)
 
 pub root-spec : {M : Type 1} → statement M
-root-spec = tie.close (tie.spec root-requires returns)
+root-spec =
+    tie.close
+    (tie.spec (λ c κs. accepted (c .args .settings) (c .pre) .root) returns)

@@ -1,7 +1,7 @@
 -- The place of the lowest bit, of a code of eight bits.
 use native.Mathlib.Omega.{arith}
-use Rattle.geometry.specs.Laws.Codes.{place-number}
 use borrow.Author.Needs.{needs}
+use Rattle.geometry.specs.Laws.Codes.{place-number}
 use Rattle.geometry.proofs.quadrants.Quadrants.mutation_index.Statement.{statement}
 use Rattle.geometry.proofs.quadrants.Quadrants.mutation_index.Tie as tie
 
@@ -12,4 +12,6 @@ returns : tie.Need-returns
 returns c = place-number (c .before .args .self .code) (omega (arith, cast-result c))
 
 pub mutation-index-spec : {M : Type 1} → statement M
-mutation-index-spec = tie.close (tie.spec cast-result returns)
+mutation-index-spec =
+    tie.close
+    (tie.spec cast-result returns)
