@@ -1,2 +1,3 @@
 -- Laws of the steps.
+--     Records      from the single operations to the records of a batch
 pub mod Records

@@ -1,3 +1,5 @@
--- What the steps of a batch ask and leave.
+-- The steps of a batch.
+--     Steps        what the check of a batch and one record leave
+--     Laws         the laws of these
 pub mod Steps
 pub mod Laws

@@ -25,7 +25,7 @@ RecordCarriedOut rule s nodes dots rects s′ nodes′ dots′ rects′ word =
     (marks : List ℕ) (x : Shape) → Holds (world s nodes dots rects marks) x
     → Holds (world s′ nodes′ dots′ rects′ marks) (rule x .shape) × (word ≡ rule x .word)
 
--- 'A refused record writes its own answer word and nothing else; records after it go on.'
+-- §10.3, §10.5: a record's word in its place of the row, and the state that the next record gets
 pub record Stepped (r : Record) (i : ℕ) (b : Batched) (answers nodes dots : List ℕ) (rects : List ℤ) (b′ : Batched) (answers′ nodes′ dots′ : List ℕ)
     (rects′ : List ℤ) : Type 0 where
   pub refusal : b′ .refusal ≡ b .refusal
@@ -33,7 +33,7 @@ pub record Stepped (r : Record) (i : ℕ) (b : Batched) (answers nodes dots : Li
   pub words : (marks : List ℕ) (x : Shape) → Holds (world (b .state) nodes dots rects marks) x
       → Holds (world (b′ .state) nodes′ dots′ rects′ marks) (carryOut r x .shape) × (answers′ ≡ set answers i (carryOut r x .word))
 
--- '1 covers rows of unequal length.' 'The check is made once.'
+-- §10.3, §11.6: rows of unequal length are 1; then the check
 pub record Begun (records words : ℕ) (s : State) (nodes dots : List ℕ) (rects : List ℤ) (marks : List ℕ) (b : Batched) (marks′ : List ℕ) : Type 0 where
   pub kept : b .state ≡ s
   pub unequal : (records ≡ words → ⊥) → (b .refusal ≡ 1) × (marks′ ≡ marks)

@@ -1,4 +1,4 @@
--- What each exported call leaves in the rows that it is lent, by the model's statement of the call.
+-- What each exported call leaves in the rows that it is lent, by the model's statement of the call (§18).
 --     Lent         the rows: state, nodes, dots, rectangles, marks, answer
 --     resultOf     what is returned: 0 or the refusal, 8 with 256 times the number wanted added
 --     stateRow, answerRow      the state row and the answer row after a reply; a refused call leaves them as they were

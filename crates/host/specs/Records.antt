@@ -1,4 +1,4 @@
--- A batch's records as a row of words.
+-- A batch's records as a row of words (§18.5).
 --     recordIn     the record of a place: six words, kind, id, rectangle
 --     recordsIn    the records of a row
 --     batchFits    a state row of ten words, and whole records

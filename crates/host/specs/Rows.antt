@@ -1,4 +1,4 @@
--- A state as a row of ten words, an answer as a row of two.
+-- A state as a row of ten words, an answer as a row of two (§18.2, §18.4).
 --     signed       the number that a word stands for: 4294967296 is added to a negative one
 --     settingsIn, stateIn  the settings and the state in a row
 --     withState    the row with another state of the same settings

@@ -1,4 +1,4 @@
--- The lines of calls (document 01, 'dotcheck').
+-- The lines of calls (§13.3, §13.4).
 --     letter, kinds, values, text      a call's line
 --     LineOf                           THE STATEMENT: what a line is
 use mathlib.Core.Path.{_≡_}
@@ -31,7 +31,7 @@ four = i32 ∷ i32 ∷ i32 ∷ i32 ∷ []
 abbrev pub three : List Kind
 three = u32 ∷ u32 ∷ u32 ∷ []
 
--- 'Ids and the last three numbers of S are u32, the others i32' 'I and D take id and rectangle, Q a rectangle, C nothing'
+-- §13.3: the types of a line's numbers, by its letter
 abbrev pub kinds : ℕ → List Kind
 kinds l =
     cond (eqb l 83) (i32 ∷ i32 ∷ i32 ∷ i32 ∷ three)
@@ -40,7 +40,7 @@ kinds l =
 abbrev pub corners : AABB → List ℤ
 corners r = r .x1 ∷ r .y1 ∷ r .x2 ∷ r .y2 ∷ []
 
--- 'S with left, top, width, height, depth limit, leaf limit, smallest cell'
+-- §13.3: the numbers of a call's line
 abbrev pub values : Call → List ℤ
 values (Settings s) =
     s .left ∷ s .top ∷ s .width ∷ s .height ∷ pos (s .«depth_limit») ∷ pos (s .«leaf_limit») ∷ pos (s .«smallest_cell») ∷ []
@@ -62,7 +62,7 @@ pub record Begins (l : ℕ) (bytes : List ℕ) : Type 0 where
   pub some : 1 ≤ length bytes
   pub first : bytes ≡ l ∷ drop 1 bytes
 
--- 'at most 80 bytes a line before its LF': the call whose text the bytes are; else unreadable
+-- §13.2, §13.4: the call whose text the bytes are; a line of no call is unreadable
 abbrev pub LineOf : List ℕ → Line → Type 0
 LineOf bytes (line.Call c) = (length bytes ≤ 80) × Fits c × (text c ≡ bytes)
 LineOf bytes line.Unreadable = length bytes ≤ 80 → (c : Call) → Fits c → text c ≡ bytes → ⊥

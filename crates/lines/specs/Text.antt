@@ -1,4 +1,4 @@
--- Numbers and fields as text (document 01, 'dotcheck'). A byte is its ASCII code.
+-- Numbers and fields as text (§13.3). A byte is its ASCII code.
 --     decimal      a natural number's digits
 --     number       an integer's text
 --     Kind, Within, WithinAll      the types of fields, and their ranges
@@ -10,7 +10,7 @@ use Prim.Native.Nat.{ℕ, zero, suc, _+_, _/_, _%_, _^_, _<_}
 use lib.IntN.{ℤ, pos, negsuc}
 use lib.Dec.{ltb}
 
--- the digits of a number below 10 ^ places, the first digit first: 'no leading zero'
+-- the digits of a number below 10 ^ places, the first digit first
 unfoldable pub digits : ℕ → ℕ → List ℕ
 digits zero n = []
 digits (suc places) n = cond (ltb n 10) ((48 + n) ∷ []) (digits places (n / 10) ++ ((48 + n % 10) ∷ []))
@@ -19,7 +19,7 @@ digits (suc places) n = cond (ltb n 10) ((48 + n) ∷ []) (digits places (n / 10
 abbrev pub decimal : ℕ → List ℕ
 decimal n = digits 10 n
 
--- 'decimal, minus sign only, no leading zero, -0 or blank'
+-- §13.3: digits, with a minus sign before a negative number's
 abbrev pub number : ℤ → List ℕ
 number (pos n) = decimal n
 number (negsuc n) = 45 ∷ decimal (suc n)
@@ -28,7 +28,7 @@ pub data Kind : Type 0 where
   u32 : Kind
   i32 : Kind
 
--- 'a number beyond that is unreadable'
+-- §13.4: what a type holds
 abbrev pub Within : Kind → ℤ → Type 0
 Within u32 (pos n) = n < 2 ^ 32
 Within u32 (negsuc n) = ⊥
@@ -42,7 +42,7 @@ WithinAll [] (z ∷ zs) = ⊥
 WithinAll (k ∷ ks) [] = ⊥
 WithinAll (k ∷ ks) (z ∷ zs) = Within k z × WithinAll ks zs
 
--- 'Fields are parted by commas'
+-- §13.3: a comma before each number
 unfoldable pub fields : List ℤ → List ℕ
 fields [] = []
 fields (z ∷ zs) = 44 ∷ number z ++ fields zs

@@ -1,2 +1,3 @@
--- What the query without the check leaves in the rows that it is lent.
+-- The query without the check.
+--     Answers      what it leaves in the rows that it is lent
 pub mod Answers
