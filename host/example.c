@@ -22,14 +22,14 @@ static void insert(uint32_t id, int32_t x1, int32_t y1, int32_t x2, int32_t y2) 
     if (result == 0)
         printf("insert %" PRIu32 ": %" PRIu32 " splits\n", id, answer[0]);
     else
-        printf("insert %" PRIu32 ": refused %" PRIu32 "\n", id, KRAKVINGE_REFUSAL(result));
+        printf("insert %" PRIu32 ": refusal %" PRIu32 ": %s\n", id, KRAKVINGE_REFUSAL(result), krakvinge_refusal_text(KRAKVINGE_REFUSAL(result)));
 }
 
 static void query(size_t room) {
     uint32_t ids[PLACES] = {0};
     uint64_t result = krakvinge_query(TREE, 0, 0, 8, 8, ids, room, ANSWER);
     if (result != 0) {
-        printf("query: refused %" PRIu32 ", %" PRIu32 " wanted\n", KRAKVINGE_REFUSAL(result), KRAKVINGE_WANTED(result));
+        printf("query: refusal %" PRIu32 ": the row is too short for %" PRIu32 " answers\n", KRAKVINGE_REFUSAL(result), KRAKVINGE_WANTED(result));
         return;
     }
     printf("query: ids [");

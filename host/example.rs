@@ -12,13 +12,13 @@ fn run() -> Result<(), Refused> {
         println!("insert {id}: {} splits", film.insert(id, rect)?);
     }
     if let Err(refused) = film.insert(4, [16, 16, 18, 18]) {
-        println!("insert 4: refused {}", refused.number);
+        println!("insert 4: {refused}");
     }
     let mut ids = [0; 8];
     let listed = film.query([0, 0, 8, 8], &mut ids)?;
     println!("query: ids {:?}, {} nodes opened", &ids[..listed.hits], listed.opened);
     if let Err(refused) = film.query([0, 0, 8, 8], &mut ids[..1]) {
-        println!("query: refused {}, {} wanted", refused.number, refused.wanted);
+        println!("query: {refused}");
     }
     let mut row = [0; 24];
     let leaves = film.leaves(&mut row)?;
@@ -42,7 +42,7 @@ fn run() -> Result<(), Refused> {
 
 fn main() {
     if let Err(refused) = run() {
-        println!("refused {}", refused.number);
+        println!("{refused}");
         std::process::exit(1);
     }
 }

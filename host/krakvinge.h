@@ -7,8 +7,13 @@
  *     answer   2 words
  * krakvinge_make reads the first seven words of the state and writes the others; from then on the rows belong to the calls.
  *
- * Each call returns 0, or the refusal: 1 a length, 2 the settings, 3 the rows are no tree, 4 the rectangle is inverted or out of range,
- * 5 it is not contained, 6 no place, 7 too few groups, 8 the row is too short, with 256 times the number wanted added.
+ * What a host must see to: each row is memory of its length that the call may read (and, where the pointer is not const, write), aligned for its
+ * words, and no two rows of a call overlap, nor does another thread write to them meanwhile. Then every call is defined and safe, whatever the rows
+ * hold: what is wrong with them is a refusal. With rows that overlap nothing is promised: a query that writes its ids over the dots would follow
+ * an id as a link.
+ *
+ * Each call returns 0, or its refusal (KRAKVINGE_REFUSAL, krakvinge_refusal_text); 8 has 256 times the number of answers added (KRAKVINGE_WANTED).
+ * An answer of query and all is one word of the row, an answer of leaves six (KRAKVINGE_LEAF_WORDS).
  * An accepted call writes its answer to the answer row; a refused one leaves it and the state as they were:
  *     insert: splits, 0       remove, cleanup: 1 for yes or 0 for no, 0       query, all: hits, opened       leaves, references: number, 0
  * A batch has a row of answers instead, a word for each record.
@@ -22,6 +27,8 @@
 extern "C" {
 #endif
 
+#define KRAKVINGE_VERSION "0.2.0"
+
 #define KRAKVINGE_STATE_WORDS 10
 #define KRAKVINGE_ANSWER_WORDS 2
 #define KRAKVINGE_RECORD_WORDS 6
@@ -30,9 +37,41 @@ extern "C" {
 #define KRAKVINGE_RECT_WORDS(places) (4 * (size_t)(places))
 #define KRAKVINGE_MARK_BYTES(groups, places) ((size_t)(groups) + (size_t)(places))
 
-/* The refusal in a result, and of refusal 8 the number wanted. */
+/* The words of so many leaves in the row of krakvinge_leaves. */
+#define KRAKVINGE_LEAF_WORDS(leaves) (6 * (size_t)(leaves))
+
+/* The refusal in a result, and of refusal 8 the number of answers. */
 #define KRAKVINGE_REFUSAL(result) ((uint32_t)((result) % 256))
 #define KRAKVINGE_WANTED(result) ((uint32_t)((result) / 256))
+
+enum krakvinge_refusal {
+    KRAKVINGE_ACCEPTED = 0,
+    KRAKVINGE_BAD_LENGTH = 1,
+    KRAKVINGE_BAD_SETTINGS = 2,
+    KRAKVINGE_NO_TREE = 3,
+    KRAKVINGE_BAD_RECTANGLE = 4,
+    KRAKVINGE_NOT_CONTAINED = 5,
+    KRAKVINGE_NO_PLACE = 6,
+    KRAKVINGE_NO_GROUP = 7,
+    KRAKVINGE_ROW_TOO_SHORT = 8,
+    KRAKVINGE_UNKNOWN_KIND = 9,
+};
+
+static inline const char *krakvinge_refusal_text(uint32_t refusal) {
+    switch (refusal) {
+    case KRAKVINGE_ACCEPTED: return "accepted";
+    case KRAKVINGE_BAD_LENGTH: return "a row has the wrong length";
+    case KRAKVINGE_BAD_SETTINGS: return "the settings are out of range";
+    case KRAKVINGE_NO_TREE: return "the rows and the state are no tree";
+    case KRAKVINGE_BAD_RECTANGLE: return "the rectangle is inverted or out of range";
+    case KRAKVINGE_NOT_CONTAINED: return "the root does not contain the rectangle";
+    case KRAKVINGE_NO_PLACE: return "no place is free";
+    case KRAKVINGE_NO_GROUP: return "the splits need more groups than are free";
+    case KRAKVINGE_ROW_TOO_SHORT: return "the row is too short for the answers";
+    case KRAKVINGE_UNKNOWN_KIND: return "the record is of no known kind";
+    default: return "no refusal of this library";
+    }
+}
 
 /* The kinds of a batch's records, and the refusal in an answer word; 0 in the word of an accepted record. */
 #define KRAKVINGE_INSERT 0

@@ -14,12 +14,31 @@ pub struct Settings {
     pub smallest_cell: u32,
 }
 
-/// Why a call was turned down; `wanted` is how many answers there are, for refusal 8 alone.
+/// Why a call was turned down; `wanted` is how many answers there are, for refusal 8 alone (a leaf is one answer, of six words).
 #[derive(Clone, Copy, PartialEq, Eq, Debug)]
 pub struct Refused {
     pub number: u32,
     pub wanted: u32,
 }
+
+impl std::fmt::Display for Refused {
+    fn fmt(&self, f: &mut std::fmt::Formatter) -> std::fmt::Result {
+        let why = match self.number {
+            1 => "a row has the wrong length",
+            2 => "the settings are out of range",
+            3 => "the rows and the state are no tree",
+            4 => "the rectangle is inverted or out of range",
+            5 => "the root does not contain the rectangle",
+            6 => "no place is free",
+            7 => "the splits need more groups than are free",
+            8 => return write!(f, "refusal 8: the row is too short for {} answers", self.wanted),
+            _ => "no refusal of this library",
+        };
+        write!(f, "refusal {}: {why}", self.number)
+    }
+}
+
+impl std::error::Error for Refused {}
 
 /// What a query found: how many words of the row are ids, and the nodes opened.
 #[derive(Clone, Copy, PartialEq, Eq, Debug)]
