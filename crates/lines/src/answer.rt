@@ -17,7 +17,7 @@ fn put_byte(out: &mut [u8], at: usize, b: u8) -> usize
 }
 
 // A comma and a number.
-pub fn put_field(out: &mut [u8], at: usize, n: u32) -> usize
+fn put_field(out: &mut [u8], at: usize, n: u32) -> usize
     requires { ⌜ at + 11 ≤ length (now out) ⌝ }
     ensures { λ r. ⌜ Put (now (out .entry)) at (fields (pos n ∷ [])) (now (out .exit)) r ⌝ }
 {
@@ -26,7 +26,7 @@ pub fn put_field(out: &mut [u8], at: usize, n: u32) -> usize
 }
 
 // The first numbers of a row, each with its comma.
-pub fn put_fields(out: &mut [u8], at: usize, row: &[u32], count: usize) -> usize
+fn put_fields(out: &mut [u8], at: usize, row: &[u32], count: usize) -> usize
     requires { ⌜ (count ≤ length (now row)) × (at + 11 * count ≤ length (now out)) ⌝ }
     ensures { λ r. ⌜ Put (now (out .entry)) at (fields (map pos (take count (now (row .entry))))) (now (out .exit)) r ⌝ }
 {

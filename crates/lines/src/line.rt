@@ -28,12 +28,12 @@ pub enum Line {
 }
 
 // Settings, if they are all that follows the letter.
-pub struct SettingsFields {
+struct SettingsFields {
     pub ok: bool,
     pub settings: Settings,
 }
 
-pub fn settings_fields(line: &[u8]) -> SettingsFields
+fn settings_fields(line: &[u8]) -> SettingsFields
     requires { ⌜ 1 ≤ length (now line) ⌝ }
     ensures { λ r. ⌜ Whole (kinds 83) (drop 1 (now (line .entry))) (r .ok) (values (Call.Settings (r .settings))) ⌝ }
 {
@@ -56,12 +56,12 @@ pub fn settings_fields(line: &[u8]) -> SettingsFields
 }
 
 // An id and a rectangle, if they are all that follows the letter.
-pub struct DotFields {
+struct DotFields {
     pub ok: bool,
     pub dot: Dot,
 }
 
-pub fn dot_fields(line: &[u8]) -> DotFields
+fn dot_fields(line: &[u8]) -> DotFields
     requires { ⌜ 1 ≤ length (now line) ⌝ }
     ensures { λ r. ⌜ Whole (u32 ∷ four) (drop 1 (now (line .entry))) (r .ok) (pos (r .dot .id) ∷ corners (r .dot .rect)) ⌝ }
 {
