@@ -37,3 +37,21 @@ corner = b'S' + b',-2147483648' * 4 + b',4294967295'
 for size, tail, answers in ((80, b',999999999,999999999', b'E,2\n'), (81, b',4294967295,999999999', b'E,9\n'), (82, b',4294967295,4294967295', b'E,9\n')):
     assert len(corner + tail) == size
     put('bytes_%d' % size, corner + tail + b'\n', answers)
+
+# G = 512: with leaf limit 1, a dot in the opposite quarter of a leaf that has one splits that leaf once. 512 groups are taken, one a dot; a dot that
+# needs the 513th is refused, and one that needs none goes on.
+side = 1 << 20
+leaves = [(side // 2, side // 2, side // 2, 1, 1)]      # centre, half size, and the dot of each leaf that has one, the oldest first
+points = [(1, 1)]
+def opposite(at, centre, half):
+    return centre + half // 2 if at <= centre else centre - half // 2
+while len(points) < 514:
+    x, y, half, px, py = leaves.pop(0)
+    nx, ny = opposite(px, x, half), opposite(py, y, half)
+    points.append((nx, ny))
+    for dx, dy in ((px, py), (nx, ny)):
+        leaves.append((x - half // 2 if dx <= x else x + half // 2, y - half // 2 if dy <= y else y + half // 2, half // 2, dx, dy))
+lines = b''.join(b'I,%d,%d,%d,%d,%d\n' % (k, x, y, x, y) for k, (x, y) in enumerate(points))
+free = b'I,999,%d,%d,%d,%d\n' % (side // 2 + 1, 1, side // 2 + 1, 1)
+put('all_groups', b'S,0,0,%d,%d,255,1,1\n' % (side, side) + lines + free,
+    b'S,20\nI,0,0\n' + b''.join(b'I,%d,1\n' % k for k in range(1, 513)) + b'E,7\nI,999,0\n')
