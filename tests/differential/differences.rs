@@ -1,6 +1,6 @@
 // The rows of docs/DIFFERENCES.md, each by its smallest input on both sides.
 use crate::calls::{Rect, Settings};
-use crate::krakvinge::{Rows, Tree};
+use crate::krakvinge::{Refused, Rows, Tree};
 use crate::quadtree::quad_rect::QuadRect;
 use crate::quadtree::quadtree::{QuadTree, QuadTreeElement};
 use crate::quadtree::AABB;
@@ -81,8 +81,32 @@ fn depth_limit() -> bool {
     refused_make(&Settings { depth_limit: 256, ..ROOT }) == 2 && refused_make(&Settings { depth_limit: 255, ..ROOT }) == 0
 }
 
+fn number<A>(answer: Result<A, Refused>) -> u32 {
+    answer.map_or_else(|refused| refused.number, |_| 0)
+}
+
+// No place at all: the original makes one.
+fn no_place() -> bool {
+    let mut ours = Tree::new(&ROOT, 0, 0).expect("the settings are in range");
+    takes(&mut original(&ROOT), 1, [1, 1, 2, 2]) && number(ours.insert(1, [1, 1, 2, 2])) == 6
+}
+
+// No group at all, and a second dot in a leaf that holds one.
+fn no_group() -> bool {
+    let (mut theirs, mut ours) = (original(&ROOT), Tree::new(&ROOT, 0, 2).expect("the settings are in range"));
+    let first = takes(&mut theirs, 1, [1, 1, 2, 2]) && ours.insert(1, [1, 1, 2, 2]) == Ok(0);
+    first && takes(&mut theirs, 2, [1, 1, 2, 2]) && number(ours.insert(2, [1, 1, 2, 2])) == 7
+}
+
+// A row of no words, and one dot to list.
+fn short_row() -> bool {
+    let (mut theirs, mut ours) = (original(&ROOT), Tree::new(&ROOT, 0, 1).expect("the settings are in range"));
+    let first = takes(&mut theirs, 1, [1, 1, 2, 2]) && ours.insert(1, [1, 1, 2, 2]) == Ok(0);
+    first && theirs.intersect_aabb(&AABB::from([1, 1, 2, 2])).len() == 1 && ours.query([1, 1, 2, 2], &mut []) == Err(Refused { number: 8, wanted: 1 })
+}
+
 pub fn as_documented() -> bool {
-    let rows: [(&str, fn() -> bool); 7] = [
+    let rows: [(&str, fn() -> bool); 10] = [
         ("freed places", freed_places),
         ("an inverted dot", inverted_dot),
         ("a coordinate beyond 2^30", far_coordinate),
@@ -90,6 +114,9 @@ pub fn as_documented() -> bool {
         ("a smallest cell of 2147483648", large_smallest_cell),
         ("a root whose far edge passes 1073741823", far_edge),
         ("a depth limit of 256", depth_limit),
+        ("no free place", no_place),
+        ("no free group", no_group),
+        ("a row that is too short", short_row),
     ];
     let wrong: Vec<&str> = rows.iter().filter(|(_, holds)| !holds()).map(|(name, _)| *name).collect();
     println!("differential: {} documented differences hold, of {}{}", rows.len() - wrong.len(), rows.len(), wrong.iter().map(|w| format!("; NOT: {w}")).collect::<String>());
