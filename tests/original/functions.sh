@@ -1,12 +1,13 @@
 # shellcheck shell=bash
 # Sourced at the top of the repository: what is compared with the original is compiled beside its files.
 
-# have COMMAND PACKAGE: a command, from its Debian package where it is missing.
+# have COMMAND PACKAGE: a command, from its Debian package where it is missing and installing is not turned off (INSTALL=no).
 have() {
     command -v "$1" > /dev/null || install "$2"
     command -v "$1" > /dev/null
 }
 install() {
+    [ "${INSTALL:-yes}" = yes ] || return 0
     mkdir -p target
     { timeout 300 apt-get update -qq && timeout 300 apt-get install -y -qq "$1"; } > target/install.log 2>&1 < /dev/null || true
 }
