@@ -15,7 +15,7 @@ use Rattle.geometry.specs.declared.aabb.AABB.{AABB}
 use Rattle.model.specs.declared.State.{State}
 use Rattle.model.specs.Layout.{World, world}
 use Rattle.model.specs.declared.answers.Found.{Found}
-use Rattle.model.specs.Calls.{Reply, refused, tooMany, answered, yesNo, Insert, Remove, Cleanup, Query, All, Leaves, References, Make, Batch}
+use Rattle.model.specs.Calls.{Reply, refused, tooMany, answered, refusal, yesNo, Insert, Remove, Cleanup, Query, All, Leaves, References, Make, Batch}
 use Rattle.model.specs.declared.answers.MakeAnswer.{MakeAnswer}
 use Rattle.model.specs.Answers.{makeReply, makeState}
 use Rattle.tree_check.specs.Checks.{Checked}
@@ -36,10 +36,11 @@ lent state nodes dots rects marks answer = record { state = state; nodes = nodes
 abbrev pub worldOf : State → Lent → World
 worldOf s l = world s (l .nodes) (l .dots) (l .rects) (l .marks)
 
+-- §18.3: the refusal's number, 8 with 256 times the number of answers added
 abbrev pub resultOf : {A : Type 0} → Reply A → ℕ
-resultOf (refused k) = k
-resultOf (tooMany n) = 8 + 256 * n
-resultOf (answered a) = 0
+resultOf {A} (refused k) = refusal {A = A} (refused k)
+resultOf {A} (tooMany n) = refusal {A = A} (tooMany n) + 256 * n
+resultOf {A} (answered a) = refusal (answered a)
 
 abbrev pub stateRow : {A : Type 0} → State → List ℕ → Reply A → List ℕ
 stateRow s row (refused k) = row
