@@ -1,12 +1,12 @@
 -- A row with a word for each live dot has room for all that are listed; for a shorter one they are counted first.
 use mathlib.Core.Logic.{⊎-elim}
-use Rattle.tree_query.specs.Queries.{queried-many, queried-listed, room-live, room-counted}
+use Rattle.tree_query.specs.Laws.Queries.{queried-many, queried-listed, room-live, room-counted}
 use borrow.Author.Needs.{needs}
 use Rattle.tree_query.proofs.query.query_row.Statement.{statement}
 use Rattle.tree_query.proofs.query.query_row.Tie as tie
 
 returns : tie.Need-returns
-returns c = let counted : tie.After-count-hits = search in queried-many _ _ _ _ _ _ _ (counted .count-hits .ensures) (c .if2 .taken)
+returns c = search queried-many
 
 returns-2 : tie.Need-returns-2
 returns-2 c =
