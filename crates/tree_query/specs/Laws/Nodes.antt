@@ -24,20 +24,8 @@ use Rattle.model.specs.declared.answers.Found.{Found}
 use Rattle.memory.specs.declared.node.Node.{Node}
 use Rattle.memory.specs.Nodes.{nodeAt}
 use Rattle.tree.specs.Standing.{nodeTotal, Stands, not-branch, is-branch, mark-no-leaf, shallow-branch}
-use Rattle.tree_query.specs.Walks.{
-  sumLast,
-  chainHits,
-  after,
-  rowAfter,
-  Left,
-  CanGrow,
-  ChainWalk,
-  ChainWalked,
-  NodeWalk,
-  NodeWalked,
-  GroupWalk,
-  GroupWalked,
-}
+use Rattle.tree_query.specs.Walks.{sumLast, chainHits, after, rowAfter, Left, CanGrow}
+use Rattle.tree_query.specs.Walks.{ChainWalk, ChainWalked, NodeWalk, NodeWalked, GroupWalk, GroupWalked}
 use Rattle.tree_query.specs.Laws.Children.{join-five}
 
 -- one node more is opened

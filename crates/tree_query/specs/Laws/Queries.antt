@@ -2,7 +2,8 @@
 --     tree-settings, tree-root     the settings of a tree are in range, and so is its root
 --     root-walk, root-met  the walk from the root
 --     met-counted          a walk with no room counts
---     queried-many, queried-listed         refusal 8, and the ids listed; room-live, room-counted: there is room for them
+--     room-live, room-counted      there is room for all that is listed
+--     queried-many, queried-listed     refusal 8, and the ids listed
 use mathlib.Core.Path.{_≡_, ap, sym, _∙_}
 use mathlib.Core.List.{List}
 use mathlib.Core.Bool.{true}
@@ -94,22 +95,22 @@ module _ (s : State) (nodes dots : List ℕ) (rects : List ℤ) where
       rw (lt-ltb (length row) (length (listed q x)) (omega (arith, many)))
       (ap (λ (n : ℕ). exit (world s nodes dots rects (replicate (length marks) 0)) row (tooMany n)) many)
 
+  -- there is room for all that is listed: for every live dot, or for those that were counted
+  abbrev Fits : AABB → ℕ → Type 0
+  Fits q room = (marks : List ℕ) (x : Shape) → Holds (world s nodes dots rects marks) x → length (listed q x) ≤ room
+
+  pub room-live : (q : AABB) (room : ℕ) → s .live ≤ room → Fits q room
+  room-live q room l marks x h = omega (arith, listed-le q x (h .valid), holds-represented (world s nodes dots rects marks) x h .live)
+
+  pub room-counted : (q : AABB) (room : ℕ) (r : Found) → Counted s q nodes dots rects r → r .hits ≤ room → Fits q room
+  room-counted q room r c l marks x h = omega (arith, counted-hits q r c marks x h)
+
   -- the row begins with the ids and keeps its tail
   pub queried-listed : (q : AABB) (row row′ : List ℕ) (r : Found) → Met s q nodes dots rects (length row) row row′ r
-      → ((marks : List ℕ) (x : Shape) → Holds (world s nodes dots rects marks) x → length (listed q x) ≤ length row)
-      → Queried s q nodes dots rects row row′ (answered r)
+      → Fits q (length row) → Queried s q nodes dots rects row row′ (answered r)
   unfolding Met Queried queryRule cleared
   queried-listed q row row′ r m fits = λ marks x h.
       let found = m marks x h in
       let written = found .1 ∙ kept-whole (length row) row (listed q x) (fits marks x h) (fits marks x h) in
       let words = h .words in
       rw (le-ltb (length row) (length (listed q x)) (fits marks x h)) (λ i. exit (words i) (written i) (answered (found .0 i)))
-
-  -- there is room: for every live dot, or for those that were counted
-  pub room-live : (q : AABB) (room : ℕ) → s .live ≤ room → (marks : List ℕ) (x : Shape) → Holds (world s nodes dots rects marks) x
-      → length (listed q x) ≤ room
-  room-live q room l marks x h = omega (arith, listed-le q x (h .valid), holds-represented (world s nodes dots rects marks) x h .live)
-
-  pub room-counted : (q : AABB) (room : ℕ) (r : Found) → Counted s q nodes dots rects r → r .hits ≤ room
-      → (marks : List ℕ) (x : Shape) → Holds (world s nodes dots rects marks) x → length (listed q x) ≤ room
-  room-counted q room r c l marks x h = omega (arith, counted-hits q r c marks x h)
