@@ -1,2 +1,3 @@
 -- Laws of the batch.
+--     Runs         from the check to the last record, and the contract
 pub mod Runs

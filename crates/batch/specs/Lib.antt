@@ -1,4 +1,7 @@
--- The batch's answer as document 01 gives it; Laws shows that the batch obeys its statement.
+-- What a batch answers (§10).
+--     Answers      its refusal as a whole, and what stands where a row has no record
+--     Runs         what holds between two records
+--     Laws         the proofs
 pub mod Answers
 pub mod Runs
 pub mod Laws

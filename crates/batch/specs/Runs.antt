@@ -33,4 +33,5 @@ pub record Progress (rs : List Record) (s : State) (answers nodes dots : List �
   pub accepted : w .batched .refusal ≡ 0 → w .batched .count ≡ length rs
   pub idle : i ≡ 0 → (world (w .batched .state) (w .nodes) (w .dots) (w .rects) (w .marks) ≡ world s nodes dots rects (w .marks)) × (w .answers ≡ answers)
   pub run : (m : List ℕ) (x : Shape) → Holds (world s nodes dots rects m) x
-      → Holds (world (w .batched .state) (w .nodes) (w .dots) (w .rects) m) (batchShape (take i rs) x) × (w .answers ≡ batchWords (take i rs) x ++ drop i answers)
+      → Holds (world (w .batched .state) (w .nodes) (w .dots) (w .rects) m) (batchShape (take i rs) x)
+      × (w .answers ≡ batchWords (take i rs) x ++ drop i answers)

@@ -1,6 +1,6 @@
--- The answer to the first line (document 01, 'dotcheck').
+-- The answer to the first line (§13.5).
 --     MakeLine     make, and the line of its reply
---     Started      the first line: S, or another line or none, 'then the end'
+--     Started      the first line: an `S`; or another line or none, and the end
 use mathlib.Core.Path.{_≡_}
 use mathlib.Core.List.{List, [], _∷_}
 use Prim.Native.Nat.{ℕ}
@@ -17,11 +17,7 @@ use Rattle.lines.specs.declared.line.Line.{Line}
 use Rattle.lines.specs.declared.line.Line.the-variants as line
 use Rattle.ticket.specs.declared.first.Start.{Start}
 use Rattle.ticket.specs.declared.first.Start.the-variants as start
-use Rattle.ticket.specs.Ticket.{replyLine}
-use Rattle.ticket.specs.Ticket as ticket
-
-abbrev pub refusalLine : ℕ → List ℕ
-refusalLine k = ticket.refusalLine k
+use Rattle.ticket.specs.Ticket.{refusalLine, replyLine}
 
 -- where the answer's bytes end
 abbrev pub endOf : Start → ℕ
@@ -39,14 +35,14 @@ GoesOn r (tooMany n) = ⊥
 GoesOn (start.Going s n) (answered a) = Unit {0}
 GoesOn (start.Ended n) (answered a) = ⊥
 
--- 'S,D'; '`E,2` for bad settings .. then the end'
+-- §13.5: `S,` and D; with settings out of range `E,2`, and the end
 pub record MakeLine (w : World) (s : Settings) (r : Start) (w′ : World) (bytes : List ℕ) : Type 0 where
   pub reply : Reply (Unit {0})
   pub call : Make w s w′ reply
   pub goes : GoesOn r reply
   pub line : bytes ≡ replyLine (λ _. answer 83 (D s ∷ [])) reply
 
--- '`E,9` for another line or none, then the end'
+-- §13.5: any other first line, or none, is `E,9`, and the end
 pub record NoStart (w : World) (r : Start) (w′ : World) (bytes : List ℕ) : Type 0 where
   pub ends : r ≡ start.Ended (endOf r)
   pub kept : w′ ≡ w

@@ -1,4 +1,7 @@
--- What a program answers to a line of a ticket: the first line, and a later one.
+-- What a program answers to the lines of a ticket (§13.5, §13.6).
+--     Ticket       a later line
+--     First        the first line
+--     Laws         the proofs
 pub mod Ticket
 pub mod First
 pub mod Laws

@@ -1,8 +1,8 @@
--- The answer to each line (document 01, 'dotcheck'): the call that the line is, and its answer's line.
---     replyLine        a reply as a line
---     InsertLine, RemoveLine, CleanupLine, QueryLine     a call and the line of its reply
---     CallLine, Called     the same by the call
---     Answered         a later line
+-- The answer to a later line (§13.6): the call that the line is, and its answer's line.
+--     refusalLine, replyLine       a refusal and a reply as a line
+--     InsertLine, RemoveLine, CleanupLine, QueryLine       a call and the line of its reply
+--     CallLine, Called             the same by the call
+--     Answered                     a later line
 use mathlib.Core.Path.{_≡_}
 use mathlib.Core.List.{List, [], _∷_}
 use mathlib.Core.Bool.{Bool}
@@ -20,7 +20,7 @@ use Rattle.lines.specs.declared.line.Call.the-variants as call
 use Rattle.lines.specs.declared.line.Line.{Line}
 use Rattle.lines.specs.declared.line.Line.the-variants as line
 
--- 'E,refusal'
+-- §13.6: `E,` and the refusal
 abbrev pub refusalLine : ℕ → List ℕ
 refusalLine k = answer 69 (k ∷ [])
 
@@ -29,31 +29,31 @@ replyLine f (refused k) = refusalLine k
 replyLine f (tooMany n) = refusalLine 8
 replyLine f (answered a) = f a
 
--- 'I,id,splits'
+-- §13.6: `I,id,splits`
 pub record InsertLine (w : World) (dot : Dot) (w′ : World) (bytes : List ℕ) : Type 0 where
   pub reply : Reply ℕ
   pub call : Insert w dot w′ reply
   pub line : bytes ≡ replyLine (λ splits. answer 73 (dot .id ∷ splits ∷ [])) reply
 
--- 'D,id,1 or 0'
+-- §13.6: `D,id,1` or `D,id,0`
 pub record RemoveLine (w : World) (dot : Dot) (w′ : World) (bytes : List ℕ) : Type 0 where
   pub reply : Reply Bool
   pub call : Remove w (dot .id) (dot .rect) w′ reply
   pub line : bytes ≡ replyLine (λ yes?. answer 68 (dot .id ∷ yesNo yes? ∷ [])) reply
 
--- 'C,1 or 0'
+-- §13.6: `C,1` or `C,0`
 pub record CleanupLine (w : World) (w′ : World) (bytes : List ℕ) : Type 0 where
   pub reply : Reply Bool
   pub call : Cleanup w w′ reply
   pub line : bytes ≡ replyLine (λ yes?. answer 67 (yesNo yes? ∷ [])) reply
 
--- 'Q,opened,hits,ids (no hits: the line ends after hits)'
+-- §13.6: `Q,opened,hits` and the ids
 pub record QueryLine (w : World) (r : AABB) (row : List ℕ) (w′ : World) (row′ bytes : List ℕ) : Type 0 where
   pub reply : Reply Found
   pub call : Query w r row w′ row′ reply
   pub line : bytes ≡ replyLine (λ l. answer 81 (l .opened ∷ l .hits ∷ take (l .hits) row′)) reply
 
--- 'E,refusal (9: unreadable line or later S)': nothing is changed
+-- an unreadable line or a second `S`: refusal 9, and nothing is changed
 abbrev pub Nine : World → List ℕ → World → List ℕ → List ℕ → Type 0
 Nine w row w′ row′ bytes = (w′ ≡ w) × (row′ ≡ row) × (bytes ≡ refusalLine 9)
 

@@ -1,7 +1,7 @@
 -- What the reading calls leave, for every marks and every shape that the words hold.
---     Met, Counted what the walk of the whole tree lists and counts
+--     Met, Counted what the walk of the whole tree lists and counts (§8.4)
 --     Queried      what a query leaves, by its rule
---     LeavesMet, LeavesListed  the same of the leaves, for which the nodes are enough
+--     LeavesMet, LeavesListed  the same of the leaves (§9.2), for which the nodes are enough
 use mathlib.Core.Path.{_≡_}
 use mathlib.Core.List.{List}
 use Prim.Native.Nat.{ℕ}
@@ -34,7 +34,8 @@ Queried s q nodes dots rects row row′ reply =
 
 unfoldable pub LeavesMet : State → List ℕ → ℕ → List ℤ → List ℤ → ℕ → Type 0
 LeavesMet s nodes room row row′ r =
-    (dots : List ℕ) (rects : List ℤ) (marks : List ℕ) (x : Shape) → Holds (world s nodes dots rects marks) x → (r ≡ length (leaves x)) × (row′ ≡ keptAll room row 0 (leaves x))
+    (dots : List ℕ) (rects : List ℤ) (marks : List ℕ) (x : Shape) → Holds (world s nodes dots rects marks) x
+    → (r ≡ length (leaves x)) × (row′ ≡ keptAll room row 0 (leaves x))
 
 unfoldable pub LeavesListed : State → List ℕ → List ℤ → List ℤ → Reply ℕ → Type 0
 LeavesListed s nodes row row′ reply =

@@ -1,6 +1,7 @@
--- What the walk over the leaves asks of the words, and what it leaves.
+-- What the walk over the leaves (§9.1) asks of the words, and what it leaves.
 --     wordsOf      the six numbers of a leaf with so many dots
 --     Shaped       the nodes are those of a tree; LeafStands: in a row that has them, at most so high
+--     groupLeaves, LeavesLeft      the words of the last children; what a walk has written
 --     LeafWalk, LeafWalked, LeafGroup, LeafGroupWalked     the contracts of the node's and the group's walk
 use mathlib.Core.Path.{_≡_}
 use mathlib.Core.List.{List, [], _∷_}
@@ -17,14 +18,15 @@ use Rattle.tree.specs.Standing.{NodesIn, nodeTotal}
 use Rattle.tree_query.specs.Rows.{keptAll}
 use Rattle.tree_query.specs.Walks.{joinLast, sumLast}
 
--- 'centre x, centre y, half width, half height, depth, count'
+-- §9.2
 abbrev pub wordsOf : NodeData → ℕ → List ℤ
 wordsOf n count =
     let c = n .cell in c .«center_x» ∷ c .«center_y» ∷ c .«half_width» ∷ c .«half_height» ∷ pos (n .depth) ∷ pos count ∷ []
 
 abbrev pub Shaped : List ℕ → ℕ → Tree → Type 0
 Shaped nodes a (leaf chain) = countAt nodes a ≡ length chain
-Shaped nodes a (branch g f) = (countAt nodes a ≡ branchMark) × (firstAt nodes a ≡ childNode g 0) × ((i : ℕ) → i < 5 → Shaped nodes (childNode g i) (f i))
+Shaped nodes a (branch g f) =
+    (countAt nodes a ≡ branchMark) × (firstAt nodes a ≡ childNode g 0) × ((i : ℕ) → i < 5 → Shaped nodes (childNode g i) (f i))
 
 pub record LeafStands (nodes : List ℕ) (levels a : ℕ) (t : Tree) : Type 0 where
   pub shaped : Shaped nodes a t
@@ -35,7 +37,7 @@ pub record LeafStands (nodes : List ℕ) (levels a : ℕ) (t : Tree) : Type 0 wh
 abbrev pub groupLeaves : NodeData → (ℕ → Tree) → ℕ → List ℤ
 groupLeaves n f left = joinLast left (λ i. leavesOf (childData n i) (f i))
 
--- the words ws are written from the position at on
+-- the words are written from the position `at` on
 pub record LeavesLeft (room : ℕ) (row : List ℤ) (at : ℕ) (words : List ℤ) (row′ : List ℤ) (r : ℕ) : Type 0 where
   pub position : r ≡ at + length words
   pub written : row′ ≡ keptAll room row at words

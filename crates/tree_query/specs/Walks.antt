@@ -1,5 +1,9 @@
--- What the query's walk asks of the words, and what it leaves.
---     after, rowAfter      what a walk has met, and the row, once some dots are listed and some nodes opened
+-- What the query's walk (§8.2, §8.3) asks of the words, and what it leaves.
+--     joinLast, sumLast            over the last children of a group
+--     chainHits, groupHits, groupOpened    what a walk lists and opens
+--     after, rowAfter, Left        what it has found, and the row, once some dots are listed and some nodes opened
+--     CanGrow                      the counts may still grow by so much
+--     ChainWalk, ChainWalked, NodeWalk, NodeWalked, GroupWalk, GroupWalked     the contracts of the walks
 use mathlib.Core.Path.{_≡_}
 use mathlib.Core.List.{List, [], _++_, map}
 use mathlib.Core.Bool.{cond}
@@ -23,7 +27,7 @@ use Rattle.model.specs.declared.answers.Found.{Found}
 use Rattle.tree_query.specs.Rows.{kept, keptAll}
 
 -- the children from 5 - left on, in order
-abbrev pub joinLast {ℓ} : {A : Type ℓ} → ℕ → (ℕ → List A) → List A
+abbrev pub joinLast : {A : Type 0} → ℕ → (ℕ → List A) → List A
 joinLast zero f = []
 joinLast (suc left) f = f (5 - suc left) ++ joinLast left f
 
@@ -42,18 +46,22 @@ groupHits q n f left = joinLast left (λ i. cond (opens q n i) (hits q (childDat
 abbrev pub groupOpened : AABB → NodeData → (ℕ → Tree) → ℕ → ℕ
 groupOpened q n f left = sumLast left (λ i. cond (opens q n i) (opened q (childData n i) (f i)) 0)
 
+-- a dot: the hits, and the row, once it has been looked at
 unfoldable pub hitsAfter : AABB → Dot → ℕ → ℕ
 hitsAfter q d at = cond (isHit q d) (at + 1) at
 
 unfoldable pub rowWith : AABB → Dot → ℕ → List ℕ → ℕ → List ℕ
 rowWith q d room row at = cond (isHit q d) (kept room row at (d .id)) row
 
+abbrev pub ids : List Placed → List ℕ
+ids ds = map (λ d. d .dot .id) ds
+
 -- the dots ds are listed and k nodes opened
 unfoldable pub after : Found → List Placed → ℕ → Found
 after found ds k = record { hits = found .hits + length ds; opened = found .opened + k }
 
 unfoldable pub rowAfter : ℕ → List ℕ → Found → List Placed → List ℕ
-rowAfter room row found ds = keptAll room row (found .hits) (map (λ d. d .dot .id) ds)
+rowAfter room row found ds = keptAll room row (found .hits) (ids ds)
 
 pub record Left (room : ℕ) (row : List ℕ) (found : Found) (ds : List Placed) (k : ℕ) (row′ : List ℕ) (r : Found) : Type 0 where
   pub answer : r ≡ after found ds k
@@ -62,7 +70,7 @@ pub record Left (room : ℕ) (row : List ℕ) (found : Found) (ds : List Placed)
 -- ---- the contracts
 
 -- `found` may still grow by the dots and nodes of what is walked
-pub record Counts (found : Found) (dots nodes : ℕ) : Type 0 where
+pub record CanGrow (found : Found) (dots nodes : ℕ) : Type 0 where
   pub hits : found .hits + dots ≤ 65536
   pub opened : found .opened + nodes ≤ 81921
 
@@ -72,7 +80,7 @@ pub record ChainWalk (dots : List ℕ) (rects : List ℤ) (room : ℕ) (row : Li
   pub long : length chain ≡ count
   pub dotsIn : All (InRows dots rects) chain
   pub fits : room ≤ length row
-  pub counts : Counts found count 0
+  pub grows : CanGrow found count 0
 
 unfoldable pub ChainWalked : AABB → List ℕ → List ℤ → ℕ → List ℕ → Found → ℕ → ℕ → List ℕ → Found → Type 0
 ChainWalked q dots rects room row found head count row′ r =
@@ -81,7 +89,7 @@ ChainWalked q dots rects room row found head count row′ r =
 pub record NodeWalk (cell : CenteredAABB) (nodes dots : List ℕ) (rects : List ℤ) (room : ℕ) (row : List ℕ) (found : Found) (a levels : ℕ) : Type 0 where
   pub tree : Tree
   pub stands : Stands nodes dots rects levels a tree
-  pub counts : Counts found (size tree) (nodeTotal tree)
+  pub grows : CanGrow found (size tree) (nodeTotal tree)
   pub fits : room ≤ length row
   pub cellFits : InRange cell
 
@@ -89,18 +97,20 @@ unfoldable pub NodeWalked : AABB → CenteredAABB → List ℕ → List ℕ → 
 NodeWalked q cell nodes dots rects room row found a levels row′ r =
     (t : Tree) (n : NodeData) → Stands nodes dots rects levels a t → n .cell ≡ cell → Left room row found (hits q n t) (opened q n t) row′ r
 
-pub record GroupWalk (q : AABB) (cell : CenteredAABB) (quadrants : Quadrants) (nodes dots : List ℕ) (rects : List ℤ) (room : ℕ) (row : List ℕ) (found : Found) (first levels left : ℕ) : Type 0 where
+pub record GroupWalk (q : AABB) (cell : CenteredAABB) (quadrants : Quadrants) (nodes dots : List ℕ) (rects : List ℤ)
+    (room : ℕ) (row : List ℕ) (found : Found) (first levels left : ℕ) : Type 0 where
   pub group : ℕ
   pub children : ℕ → Tree
   pub head : first ≡ childNode group 0
   pub small : left ≤ 5
   pub stands : (i : ℕ) → 5 ≤ i + left → i < 5 → Stands nodes dots rects levels (childNode group i) (children i)
-  pub counts : Counts found (sumLast left (λ i. size (children i))) (sumLast left (λ i. nodeTotal (children i)))
+  pub grows : CanGrow found (sumLast left (λ i. size (children i))) (sumLast left (λ i. nodeTotal (children i)))
   pub fits : room ≤ length row
   pub cellFits : InRange cell
   pub code : quadrants .code ≡ cellCode cell q
 
 unfoldable pub GroupWalked : AABB → CenteredAABB → List ℕ → List ℕ → List ℤ → ℕ → List ℕ → Found → ℕ → ℕ → ℕ → List ℕ → Found → Type 0
 GroupWalked q cell nodes dots rects room row found first levels left row′ r =
-    (g : ℕ) (f : ℕ → Tree) (n : NodeData) → first ≡ childNode g 0 → ((i : ℕ) → 5 ≤ i + left → i < 5 → Stands nodes dots rects levels (childNode g i) (f i)) → n .cell ≡ cell
+    (g : ℕ) (f : ℕ → Tree) (n : NodeData) → first ≡ childNode g 0
+    → ((i : ℕ) → 5 ≤ i + left → i < 5 → Stands nodes dots rects levels (childNode g i) (f i)) → n .cell ≡ cell
     → Left room row found (groupHits q n f left) (groupOpened q n f left) row′ r

@@ -23,63 +23,63 @@ fn keep_number(row: &mut [i32], room: usize, at: usize, number: i32)
 }
 
 // The six numbers of a leaf: centre, half sizes, depth, count. The position after them.
-fn keep_leaf(row: &mut [i32], room: usize, at: usize, nd: NodeData, count: u32) -> usize
-    requires { ⌜ (room ≤ length (now row)) × (at ≤ 1000000) × (nd .depth ≤ 255) × (count ≤ 65536) ⌝ }
-    ensures { λ r. ⌜ (r ≡ at + 6) × (now (row .exit) ≡ keptAll room (now (row .entry)) at (wordsOf nd count)) ⌝ }
+fn keep_leaf(row: &mut [i32], room: usize, at: usize, node_data: NodeData, count: u32) -> usize
+    requires { ⌜ (room ≤ length (now row)) × (at ≤ 1000000) × («node_data» .depth ≤ 255) × (count ≤ 65536) ⌝ }
+    ensures { λ r. ⌜ (r ≡ at + 6) × (now (row .exit) ≡ keptAll room (now (row .entry)) at (wordsOf «node_data» count)) ⌝ }
 {
-    let cell = nd.cell;
+    let cell = node_data.cell;
     keep_number(row, room, at, cell.center_x);
     keep_number(row, room, at + 1, cell.center_y);
     keep_number(row, room, at + 2, cell.half_width);
     keep_number(row, room, at + 3, cell.half_height);
-    keep_number(row, room, at + 4, nd.depth as i32);
+    keep_number(row, room, at + 4, node_data.depth as i32);
     keep_number(row, room, at + 5, count as i32);
     at + 6
 }
 
 // A node's leaves: its own numbers, or those of its group.
 fn leaf_node(
-    nd: NodeData,
     nodes: &[u32],
-    row: &mut [i32],
-    room: usize,
-    at: usize,
     node: usize,
     levels: u32,
+    node_data: NodeData,
+    at: usize,
+    row: &mut [i32],
+    room: usize,
 ) -> usize
-    requires { ⌜ LeafWalk nd (now nodes) room (now row) at node levels ⌝ }
-    ensures { λ r. ⌜ LeafWalked nd (now (nodes .entry)) room (now (row .entry)) at node levels (now (row .exit)) r ⌝ }
+    requires { ⌜ LeafWalk «node_data» (now nodes) room (now row) at node levels ⌝ }
+    ensures { λ r. ⌜ LeafWalked «node_data» (now (nodes .entry)) room (now (row .entry)) at node levels (now (row .exit)) r ⌝ }
 {
     let words = node_at(nodes, node);
     if !words.is_branch() {
-        return keep_leaf(row, room, at, nd, words.count);
+        return keep_leaf(row, room, at, node_data, words.count);
     }
     let first = words.first as usize;
-    leaf_group(nd, nodes, row, room, at, first, levels - 1, 4)
+    leaf_group(nodes, first, levels - 1, 4, node_data, at, row, room)
 }
 
 // The leaves of the last `left` children of a group.
 fn leaf_group(
-    nd: NodeData,
     nodes: &[u32],
-    row: &mut [i32],
-    room: usize,
-    at: usize,
     first: usize,
     levels: u32,
     left: u32,
+    node_data: NodeData,
+    at: usize,
+    row: &mut [i32],
+    room: usize,
 ) -> usize
-    requires { ⌜ LeafGroup nd (now nodes) room (now row) at first levels left ⌝ }
-    ensures { λ r. ⌜ LeafGroupWalked nd (now (nodes .entry)) room (now (row .entry)) at first levels left (now (row .exit)) r ⌝ }
+    requires { ⌜ LeafGroup «node_data» (now nodes) room (now row) at first levels left ⌝ }
+    ensures { λ r. ⌜ LeafGroupWalked «node_data» (now (nodes .entry)) room (now (row .entry)) at first levels left (now (row .exit)) r ⌝ }
 {
     if left == 0 {
         return at;
     }
     let child = 5 - left;
-    let below = nd.child(child);
+    let below = node_data.child(child);
     let node = first + child as usize;
-    let next = leaf_node(below, nodes, row, room, at, node, levels);
-    leaf_group(nd, nodes, row, room, next, first, levels, left - 1)
+    let next = leaf_node(nodes, node, levels, below, at, row, room);
+    leaf_group(nodes, first, levels, left - 1, node_data, next, row, room)
 }
 
 // The numbers of all leaves, written to the first `room` words of the row; how many numbers there are.
@@ -90,7 +90,7 @@ fn list_leaves(state: State, nodes: &[u32], row: &mut [i32], room: usize) -> usi
     let settings = state.settings;
     let root = NodeData::root(settings);
     let levels = settings.deepest();
-    leaf_node(root, nodes, row, room, 0, 0, levels)
+    leaf_node(nodes, 0, levels, root, 0, row, room)
 }
 
 // Lists the leaves, where they fit the row: they are counted first.

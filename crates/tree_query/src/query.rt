@@ -28,7 +28,7 @@ fn list_hits(
     let cell = CenteredAABB::root(settings);
     let levels = settings.deepest();
     let found = Found { hits: 0, opened: 0 };
-    walk_node(query, cell, nodes, dots, rects, row, room, found, 0, levels)
+    walk_node(nodes, dots, rects, 0, levels, cell, query, found, row, room)
 }
 
 // How many dots the query meets, and the nodes opened.

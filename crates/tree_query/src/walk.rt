@@ -25,7 +25,7 @@ fn keep(row: &mut [u32], room: usize, at: usize, id: u32)
 }
 
 // Lists a dot where the query meets it; how many are then listed. A rectangle out of reach needs no closer test.
-fn list_dot(query: AABB, dot: Dot, row: &mut [u32], room: usize, hits: u32) -> u32
+fn list_dot(query: AABB, dot: Dot, hits: u32, row: &mut [u32], room: usize) -> u32
     requires { ⌜ (room ≤ length (now row)) × (hits < 65536) ⌝ }
     ensures { λ r. ⌜ (r ≡ hitsAfter query dot hits) × (now (row .exit) ≡ rowWith query dot room (now (row .entry)) hits) ⌝ }
 {
@@ -42,13 +42,13 @@ fn list_dot(query: AABB, dot: Dot, row: &mut [u32], room: usize, hits: u32) -> u
 
 // Lists the dots of a leaf's chain that the query meets.
 fn walk_chain(
-    query: AABB,
     dots: &[u32],
     rects: &[i32],
+    leaf: Node,
+    query: AABB,
+    found: Found,
     row: &mut [u32],
     room: usize,
-    found: Found,
-    leaf: Node,
 ) -> Found
     requires { ⌜ ChainWalk (now dots) (now rects) room (now row) found (leaf .first) (leaf .count) ⌝ }
     ensures { λ r. ⌜ ChainWalked query (now (dots .entry)) (now (rects .entry)) room (now (row .entry)) found (leaf .first) (leaf .count) (now (row .exit)) r ⌝ }
@@ -60,7 +60,7 @@ fn walk_chain(
     while left > 0 {
         let p = place as usize;
         place = next_at(dots, p);
-        hits = list_dot(query, dot_at(dots, rects, p), row, room, hits);
+        hits = list_dot(query, dot_at(dots, rects, p), hits, row, room);
         left -= 1;
     }
     Found { hits, opened }
@@ -68,16 +68,16 @@ fn walk_chain(
 
 // Opens a node: lists its chain, or hands its group on.
 pub fn walk_node(
-    query: AABB,
-    cell: CenteredAABB,
     nodes: &[u32],
     dots: &[u32],
     rects: &[i32],
-    row: &mut [u32],
-    room: usize,
-    found: Found,
     node: usize,
     levels: u32,
+    cell: CenteredAABB,
+    query: AABB,
+    found: Found,
+    row: &mut [u32],
+    room: usize,
 ) -> Found
     requires { ⌜ NodeWalk cell (now nodes) (now dots) (now rects) room (now row) found node levels ⌝ }
     ensures { λ r. ⌜ NodeWalked query cell (now (nodes .entry)) (now (dots .entry)) (now (rects .entry)) room (now (row .entry)) found node levels (now (row .exit)) r ⌝ }
@@ -88,38 +88,38 @@ pub fn walk_node(
         opened: found.opened + 1,
     };
     if !words.is_branch() {
-        return walk_chain(query, dots, rects, row, room, opened, words);
+        return walk_chain(dots, rects, words, query, opened, row, room);
     }
     let quadrants = cell.explore_quadrants(query);
     let first = words.first as usize;
     walk_group(
-        query,
-        cell,
-        quadrants,
         nodes,
         dots,
         rects,
-        row,
-        room,
-        opened,
         first,
         levels - 1,
+        cell,
+        quadrants,
+        query,
+        opened,
+        row,
+        room,
     )
 }
 
 // Hands back the children of a group that the query opens, from child 0 on.
 fn walk_group(
-    query: AABB,
-    cell: CenteredAABB,
-    quadrants: Quadrants,
     nodes: &[u32],
     dots: &[u32],
     rects: &[i32],
-    row: &mut [u32],
-    room: usize,
-    found: Found,
     first: usize,
     levels: u32,
+    cell: CenteredAABB,
+    quadrants: Quadrants,
+    query: AABB,
+    found: Found,
+    row: &mut [u32],
+    room: usize,
 ) -> Found
     requires { ⌜ GroupWalk query cell quadrants (now nodes) (now dots) (now rects) room (now row) found first levels 5 ⌝ }
     ensures { λ r. ⌜ GroupWalked query cell (now (nodes .entry)) (now (dots .entry)) (now (rects .entry)) room (now (row .entry)) found first levels 5 (now (row .exit)) r ⌝ }
@@ -133,16 +133,16 @@ fn walk_group(
             continue;
         }
         met = walk_node(
-            query,
-            cell.split(child),
             nodes,
             dots,
             rects,
-            row,
-            room,
-            met,
             first + child as usize,
             levels,
+            cell.split(child),
+            query,
+            met,
+            row,
+            room,
         );
     }
     met

@@ -35,7 +35,8 @@ use Rattle.batch.specs.Runs.{Words, words, Progress}
 row-step : (ws answers : List ℕ) (i v : ℕ) → length ws ≡ i → i < length answers → set (ws ++ drop i answers) i v ≡ (ws ++ (v ∷ [])) ++ drop (suc i) answers
 row-step ws answers i v e l =
     ap (λ (r : List ℕ). set (ws ++ r) i v) (drop-cons answers i 0 l)
-    ∙ subst (λ (k : ℕ). set (ws ++ getD answers i 0 ∷ drop (suc i) answers) k v ≡ ws ++ v ∷ drop (suc i) answers) e (set-append-seam ws (getD answers i 0) (drop (suc i) answers) v)
+    ∙ subst (λ (k : ℕ). set (ws ++ getD answers i 0 ∷ drop (suc i) answers) k v ≡ ws ++ v ∷ drop (suc i) answers) e
+    (set-append-seam ws (getD answers i 0) (drop (suc i) answers) v)
     ∙ sym (append-snoc ws v (drop (suc i) answers))
 
 take-length : (rs : List Record) (i : ℕ) → i ≤ length rs → length (take i rs) ≡ i
@@ -70,7 +71,9 @@ module _ (rs : List Record) (s : State) (answers nodes dots : List ℕ) (rects :
     going l = byBool (eqb (w .batched .refusal) 0) (λ e. eqb-true _ _ e) (λ e. absurd (omega (arith, l, p .refused (λ z. true-false (sym (eq-eqb _ _ z) ∙ e)))))
 
     equal-rows : w .batched .refusal ≡ 0 → length rs ≡ length answers
-    equal-rows z = byBool (eqb (length rs) (length answers)) (λ e. eqb-true _ _ e) (λ e. absurd (omega (arith, z, p .unequal (λ q. true-false (sym (eq-eqb _ _ q) ∙ e)) .0)))
+    equal-rows z =
+        byBool (eqb (length rs) (length answers)) (λ e. eqb-true _ _ e)
+        (λ e. absurd (omega (arith, z, p .unequal (λ q. true-false (sym (eq-eqb _ _ q) ∙ e)) .0)))
 
     pub progress-ready : length (w .answers) ≡ length answers → i < w .batched .count
         → (i < length rs) × IsTree (w .batched .state) (w .nodes) (w .dots) (w .rects) × (i < length (w .answers))
@@ -80,7 +83,8 @@ module _ (rs : List Record) (s : State) (answers nodes dots : List ℕ) (rects :
         let n = p .accepted z in
         let t = checked-tree (p .checked e) z in
         let small : i < length rs = omega (arith, l, n) in
-        (small, record { marks = t .marks; shape = batchShape (take i rs) (t .shape); holds = p .run (t .marks) (t .shape) (t .holds) .0 }, omega (arith, small, e, len))
+        let now = p .run (t .marks) (t .shape) (t .holds) .0 in
+        (small, record { marks = t .marks; shape = batchShape (take i rs) (t .shape); holds = now }, omega (arith, small, e, len))
 
     pub progress-step : i < w .batched .count → (b : Batched) (answers′ nodes′ dots′ : List ℕ) (rects′ : List ℤ)
         → Stepped (getD rs i noRecord) i (w .batched) (w .answers) (w .nodes) (w .dots) (w .rects) b answers′ nodes′ dots′ rects′
@@ -103,7 +107,8 @@ module _ (rs : List Record) (s : State) (answers nodes dots : List ℕ) (rects :
               let more = take-suc rs i noRecord small in
               let app = batch-append (take i rs) (r ∷ []) x in
               let shapes : carryOut r y .shape ≡ batchShape (take (suc i) rs) x = sym (app .0) ∙ ap (λ (l : List Record). batchShape l x) (sym more) in
-              let rows : batchWords (take i rs) x ++ (carryOut r y .word ∷ []) ≡ batchWords (take (suc i) rs) x = sym (app .1) ∙ ap (λ (l : List Record). batchWords l x) (sym more) in
+              let rows : batchWords (take i rs) x ++ (carryOut r y .word ∷ []) ≡ batchWords (take (suc i) rs) x =
+              sym (app .1) ∙ ap (λ (l : List Record). batchWords l x) (sym more) in
               let n : length (batchWords (take i rs) x) ≡ i = batch-words (take i rs) x ∙ take-length rs i (omega (arith, small)) in (
                 subst (Holds (world (b .state) nodes′ dots′ rects′ m)) shapes (c .0),
                 c .1
@@ -115,14 +120,16 @@ module _ (rs : List Record) (s : State) (answers nodes dots : List ℕ) (rects :
 
     -- a refusal of the whole batch: nothing was done
     refused-exit : i ≡ w .batched .count → (w .batched .refusal ≡ 0 → ⊥)
-        → exit (world (w .batched .state) (w .nodes) (w .dots) (w .rects) (w .marks)) (w .answers) (batchReply (w .batched)) ≡ exit (world s nodes dots rects (w .marks)) answers (refused (w .batched .refusal))
+        → exit (world (w .batched .state) (w .nodes) (w .dots) (w .rects) (w .marks)) (w .answers) (batchReply (w .batched))
+        ≡ exit (world s nodes dots rects (w .marks)) answers (refused (w .batched .refusal))
     unfolding batchReply
     refused-exit e ne =
         let q = p .idle (e ∙ p .refused ne) in
         rw (ne-eqb (w .batched .refusal) 0 ne) (λ j. exit (q .0 j) (q .1 j) (refused (w .batched .refusal)))
 
     done-exit : i ≡ w .batched .count → w .batched .refusal ≡ 0 → w .marks ≡ replicate (length marks) 0 → (x : Shape) → Holds (world s nodes dots rects marks) x
-        → exit (world (w .batched .state) (w .nodes) (w .dots) (w .rects) (w .marks)) (w .answers) (batchReply (w .batched)) ≡ carriedOut (world s nodes dots rects marks) answers (batchRule rs x)
+        → exit (world (w .batched .state) (w .nodes) (w .dots) (w .rects) (w .marks)) (w .answers) (batchReply (w .batched))
+        ≡ carriedOut (world s nodes dots rects marks) answers (batchRule rs x)
     unfolding batchReply batchRule cleared
     done-exit e z zeros x h =
         let a = p .run marks x h in
@@ -135,7 +142,8 @@ module _ (rs : List Record) (s : State) (answers nodes dots : List ℕ) (rects :
         rw (eq-eqb (w .batched .refusal) 0 z) (λ j. exit (words j) (row j) (answered tt))
 
     pub progress-done : i ≡ w .batched .count
-        → Batch (world s nodes dots rects marks) rs answers (world (w .batched .state) (w .nodes) (w .dots) (w .rects) (w .marks)) (w .answers) (batchReply (w .batched))
+        → Batch (world s nodes dots rects marks) rs answers (world (w .batched .state) (w .nodes) (w .dots) (w .rects) (w .marks))
+        (w .answers) (batchReply (w .batched))
     unfolding Batch
     progress-done e =
         let w₀ = world s nodes dots rects marks in
@@ -148,7 +156,8 @@ module _ (rs : List Record) (s : State) (answers nodes dots : List ℕ) (rects :
         (λ z zeros x h. done-exit e z zeros x h)))
         (λ other.
         let u = p .unequal (λ q. true-false (sym (eq-eqb _ _ q) ∙ other)) in
-        let bad : out ≡ exit w₀ answers (refused 1) = refused-exit e (λ z. absurd (omega (arith, z, u .0))) ∙ (λ j. exit (world s nodes dots rects (u .1 j)) answers (refused (u .0 j))) in
+        let bad : out ≡ exit w₀ answers (refused 1) =
+        refused-exit e (λ z. absurd (omega (arith, z, u .0))) ∙ (λ j. exit (world s nodes dots rects (u .1 j)) answers (refused (u .0 j))) in
         subst (λ (fits : Bool). Obeys fits (batchRule rs) w₀ answers out) (sym other)
         (record {
           badLength = λ l. bad;

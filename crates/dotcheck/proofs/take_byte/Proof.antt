@@ -1,20 +1,16 @@
--- A line that has ended, or one byte more.
-use mathlib.Core.Path.{sym}
-use lib.Seq.{length-take-le}
+-- A line that has ended, whose bytes lie in the row, or one byte more.
 use borrow.Author.Needs.{needs}
+use Rattle.dotcheck.proofs.Parts.{part-length}
 use Rattle.dotcheck.proofs.take_byte.Statement.{statement}
 use Rattle.dotcheck.proofs.take_byte.Tie as tie
-
-slice-aggregate-turn : tie.Need-slice-aggregate-turn
-slice-aggregate-turn c =
-    let at-start : tie.Start = search in
-    sym (length-take-le (at-start .args .progress .kept) (at-start .args .line .now) (at-start .pre .1))
 
 pub take-byte-spec : {M : Type 1} → statement M
 take-byte-spec =
     tie.close
     (tie.spec
-    (λ c. search needs) slice-aggregate-turn (λ c κs. search needs) (λ c. search needs)
-    (λ c. search needs) (λ c. search needs) (λ c. search needs) (λ c. search needs) (λ c. search needs)
-    (λ c. search needs) (λ c. search needs) (λ c κs. search needs) (λ c. search needs)
-    (λ c. search needs))
+    -- an LF
+    (λ c. search needs) (λ c. search part-length) (λ c κs. search needs)
+    (λ c. search needs) (λ c. search needs) (λ c. search needs) (λ c. search needs) (λ c. search needs) (λ c. search needs)
+    (λ c. search needs) (λ c. search needs)
+    -- any other byte
+    (λ c κs. search needs) (λ c. search needs) (λ c. search needs))

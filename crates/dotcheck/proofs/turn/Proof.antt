@@ -1,48 +1,33 @@
--- The answer's bytes lie in the row.
-use mathlib.Core.Path.{sym, subst}
-use Prim.Native.Nat.{_≤_}
-use lib.ListN.{length}
-use lib.Seq.{length-take-le}
+-- The answer's bytes lie in the row: the row is long enough for the part of it that is written out.
+use mathlib.Core.Path.{_≡_}
+use Prim.Native.Nat.{ℕ, _≤_}
 use borrow.Author.Needs.{needs}
+use Rattle.model.specs.declared.State.{State}
 use Rattle.ticket.specs.First.{endOf}
 use Rattle.ticket.specs.declared.first.Start.{Start}
+use Rattle.ticket.specs.declared.first.Start.the-variants as start
+use Rattle.dotcheck.proofs.Parts.{part-length}
 use Rattle.dotcheck.proofs.turn.Statement.{statement}
 use Rattle.dotcheck.proofs.turn.Tie as tie
 
-slice-reshare-prefix-write-all : tie.Need-slice-reshare-prefix-write-all
-slice-reshare-prefix-write-all c =
-    let at-answer-first : tie.After-answer-first = search in
-    subst (λ (r : Start). endOf r ≤ length (at-answer-first .answer-first .last .1 .1 .1 .1 .1 .0)) (c .before .state .given .1) (at-answer-first .answer-first .ensures .0)
+going : {r : Start} {s : State} {next bound : ℕ} → r ≡ start.Going s next → endOf r ≤ bound → next ≤ bound
+going e h = rw e at h
 
-slice-aggregate-write-all : tie.Need-slice-aggregate-write-all
-slice-aggregate-write-all c =
-    let at-answer-first : tie.After-answer-first = search in
-    sym (length-take-le _ (at-answer-first .answer-first .last .1 .1 .1 .1 .1 .0) (subst (λ (r : Start). endOf r ≤ length (at-answer-first .answer-first .last .1 .1 .1 .1 .1 .0)) (c .before .before .state .given .1) (at-answer-first .answer-first .ensures .0)))
-
-slice-reshare-prefix-write-all-2 : tie.Need-slice-reshare-prefix-write-all-2
-slice-reshare-prefix-write-all-2 c =
-    let at-answer-first : tie.After-answer-first = search in
-    subst (λ (r : Start). endOf r ≤ length (at-answer-first .answer-first .last .1 .1 .1 .1 .1 .0)) (c .before .next .given .1) (at-answer-first .answer-first .ensures .0)
-
-slice-aggregate-write-all-2 : tie.Need-slice-aggregate-write-all-2
-slice-aggregate-write-all-2 c =
-    let at-answer-first : tie.After-answer-first = search in
-    sym (length-take-le _ (at-answer-first .answer-first .last .1 .1 .1 .1 .1 .0) (subst (λ (r : Start). endOf r ≤ length (at-answer-first .answer-first .last .1 .1 .1 .1 .1 .0)) (c .before .before .next .given .1) (at-answer-first .answer-first .ensures .0)))
-
-slice-aggregate-write-all-3 : tie.Need-slice-aggregate-write-all-3
-slice-aggregate-write-all-3 c =
-    let at-answer-line : tie.After-answer-line = search in
-    sym (length-take-le (at-answer-line .answer-line .result .next) (at-answer-line .answer-line .last .1 .1 .1 .1 .1 .1 .1 .0) (at-answer-line .answer-line .ensures .0))
+ended : {r : Start} {next bound : ℕ} → r ≡ start.Ended next → endOf r ≤ bound → next ≤ bound
+ended e h = rw e at h
 
 pub turn-spec : {M : Type 1} → statement M
 turn-spec =
     tie.close
     (tie.spec
-    (λ c. search needs) (λ c κs. search needs) (λ c. search needs) slice-reshare-prefix-write-all
-    slice-aggregate-write-all (λ c κs. search needs) (λ c. search needs) slice-reshare-prefix-write-all-2
-    slice-aggregate-write-all-2 (λ c κs. search needs) (λ c. search needs) (λ c κs. search needs)
-    (λ c. search needs) slice-aggregate-write-all-3 (λ c κs. search needs) (λ c. search needs)
-    (λ c. search needs) (λ c. search needs) (λ c. search needs) (λ c. search needs) (λ c. search needs)
-    (λ c. search needs) (λ c. search needs) (λ c. search needs) (λ c. search needs) (λ c. search needs)
-    (λ c. search needs) (λ c. search needs) (λ c. search needs) (λ c. search needs) (λ c. search needs)
-    (λ c. search needs) (λ c. search needs) (λ c. search needs) (λ c. search needs) (λ c. search needs))
+    (λ c. search needs) (λ c κs. search needs)
+    -- the first line: the tree is made, or the end
+    (λ c. search needs) (λ c. search going) (λ c. search (part-length, going)) (λ c κs. search needs)
+    (λ c. search needs) (λ c. search ended) (λ c. search (part-length, ended)) (λ c κs. search needs)
+    -- a later line
+    (λ c. search needs) (λ c κs. search needs) (λ c. search needs) (λ c. search part-length) (λ c κs. search needs)
+    -- every row has its length
+    (λ c. search needs) (λ c. search needs) (λ c. search needs) (λ c. search needs) (λ c. search needs) (λ c. search needs)
+    (λ c. search needs) (λ c. search needs) (λ c. search needs) (λ c. search needs) (λ c. search needs) (λ c. search needs)
+    (λ c. search needs) (λ c. search needs) (λ c. search needs) (λ c. search needs) (λ c. search needs) (λ c. search needs)
+    (λ c. search needs) (λ c. search needs) (λ c. search needs))

@@ -1,5 +1,5 @@
 -- The check, then a query with the root's rectangle.
-use Rattle.tree_query.specs.Queries.{tree-root}
+use Rattle.tree_query.specs.Laws.Queries.{tree-root}
 use Rattle.calls.specs.Laws.Pattern.{checked-tree}
 use Rattle.calls.specs.Laws.Calls.{all-refused, all-answered}
 use borrow.Author.Needs.{needs}

@@ -1,7 +1,8 @@
 -- The number is stored where the position is below the room.
 use mathlib.Core.Path.{ap, _∙_}
 use mir.Facts.{toZ-ofZ}
-use Rattle.tree_query.specs.Rows.{kept, kept-in, kept-out}
+use Rattle.tree_query.specs.Rows.{kept}
+use Rattle.tree_query.specs.Laws.Rows.{kept-in, kept-out}
 use borrow.Author.Needs.{needs}
 use Rattle.tree_query.proofs.leaves.keep_number.Statement.{statement}
 use Rattle.tree_query.proofs.leaves.keep_number.Tie as tie

@@ -1,5 +1,5 @@
 -- The id is stored where the position is below the room.
-use Rattle.tree_query.specs.Rows.{kept-in, kept-out}
+use Rattle.tree_query.specs.Laws.Rows.{kept-in, kept-out}
 use borrow.Author.Needs.{needs}
 use Rattle.tree_query.proofs.walk.keep.Statement.{statement}
 use Rattle.tree_query.proofs.walk.keep.Tie as tie

@@ -2,21 +2,21 @@
 use Prim.Native.Nat.{_<_, _^_}
 use native.Mathlib.Omega.{arith}
 use borrow.Author.Needs.{needs}
-use Rattle.tree_query.specs.Chains.{Rest, rest-start, rest-turn, rest-place, rest-room, rest-end}
+use Rattle.tree_query.specs.Laws.Chains.{Rest, rest-start, rest-turn, rest-place, rest-room, rest-end}
 use Rattle.tree_query.proofs.walk.walk_chain.Statement.{statement}
 use Rattle.tree_query.proofs.walk.walk_chain.Tie as tie
 
 abbrev Inv-loop : tie.InvT-loop
-Inv-loop query dots rects row₀ room opened hits₀ place₀ left₀ row hits place left =
+Inv-loop dots rects query row₀ room opened hits₀ place₀ left₀ row hits place left =
     Rest query dots rects room row₀ hits₀ place₀ left₀ row hits place left × (place < 2 ^ 32)
 
 abbrev μ-loop : tie.MeasureT-loop
-μ-loop query dots rects row₀ room opened hits₀ place₀ left₀ row hits place left = left
+μ-loop dots rects query row₀ room opened hits₀ place₀ left₀ row hits place left = left
 
 loop-holds : tie.Need-loop-holds Inv-loop μ-loop
 loop-holds c =
     let s : tie.Start Inv-loop μ-loop = search in
-    (rest-start _ _ _ _ (s .pre .counts .hits), search needs)
+    (rest-start _ _ _ _ (s .pre .grows .hits), search needs)
 
 next-at-requires : tie.Need-next-at-requires Inv-loop μ-loop
 next-at-requires c κs =

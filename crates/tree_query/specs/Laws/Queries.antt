@@ -1,11 +1,11 @@
 -- Queries on a memory that is a tree: a law for each way through the code.
---     tree-settings        the settings of a tree are in range
+--     tree-settings, tree-root     the settings of a tree are in range, and so is its root
 --     root-walk, root-met  the walk from the root
 --     met-counted          a walk with no room counts
---     listed-few, counted-hits     how many there are, at most
---     queried-many, queried-listed         refusal 8, and the ids listed; room-live, room-counted: there is room for them
+--     room-live, room-counted      there is room for all that is listed
+--     queried-many, queried-listed     refusal 8, and the ids listed
 use mathlib.Core.Path.{_≡_, ap, sym, _∙_}
-use mathlib.Core.List.{List, map}
+use mathlib.Core.List.{List}
 use mathlib.Core.Bool.{true}
 use Prim.Native.Nat.{ℕ, _+_, _≤_, _<_}
 use native.Mathlib.Omega.{arith}
@@ -18,21 +18,21 @@ use Rattle.geometry.specs.Settings.{rootFits, inRange, D}
 use Rattle.geometry.specs.Cells.{rootCell, rootData}
 use Rattle.geometry.specs.Laws.Ranges.{accepted, root-range}
 use Rattle.model.specs.declared.State.{State}
+use Rattle.model.specs.Trees.{Placed}
 use Rattle.model.specs.Query.{hits, opened}
 use Rattle.model.specs.Shapes.{Shape, root, listed, opensFor}
 use Rattle.model.specs.Layout.{world, cleared, Holds}
 use Rattle.model.specs.Calls.{tooMany, answered, exit, queryRule}
-use Rattle.model.specs.Laws.Shapes.{live-and-free}
 use Rattle.model.specs.Laws.Layout.{holds-settings}
 use Rattle.model.specs.Laws.Memory.{holds-represented}
+use Rattle.model.specs.Laws.Lists.{length-map}
 use Rattle.model.specs.Laws.Listing.{listed-le}
 use Rattle.tree.specs.Operations.{IsTree}
 use Rattle.tree.specs.Standing.{root-stands, root-total}
 use Rattle.model.specs.declared.answers.Found.{Found}
-use Rattle.tree_query.specs.Rows.{kept-whole}
-use Rattle.tree_query.specs.Walks.{after, rowAfter, NodeWalk, NodeWalked}
-use Rattle.tree_query.specs.Groups.{length-map}
+use Rattle.tree_query.specs.Walks.{ids, after, rowAfter, NodeWalk, NodeWalked}
 use Rattle.tree_query.specs.Answers.{Met, Counted, Queried}
+use Rattle.tree_query.specs.Laws.Rows.{kept-whole}
 
 module _ (s : State) (nodes dots : List ℕ) (rects : List ℤ) where
   pub tree-settings : IsTree s nodes dots rects → inRange (s .settings) ≡ true
@@ -43,29 +43,33 @@ module _ (s : State) (nodes dots : List ℕ) (rects : List ℤ) where
 
   -- ---- the walk
 
-  pub root-walk : (room : ℕ) (row : List ℕ) (cell : CenteredAABB) → IsTree s nodes dots rects → room ≤ length row → cell ≡ rootCell (s .settings)
-      → NodeWalk cell nodes dots rects room row (record { hits = 0; opened = 0 }) 0 (D (s .settings))
-  root-walk room row cell t fits e =
+  -- nothing has been found yet
+  abbrev start : Found
+  start = record { hits = 0; opened = 0 }
+
+  pub root-walk : {room : ℕ} {row : List ℕ} {cell : CenteredAABB} {levels : ℕ} → IsTree s nodes dots rects → room ≤ length row
+      → cell ≡ rootCell (s .settings) → levels ≡ D (s .settings) → NodeWalk cell nodes dots rects room row start 0 levels
+  root-walk t fits e deep =
+      let stands = root-stands s nodes dots rects (t .marks) (t .shape) (t .holds) in
       record {
         tree = t .shape .tree;
-        stands = root-stands s nodes dots rects (t .marks) (t .shape) (t .holds);
-        counts = record {
-          hits = omega (arith, root-stands s nodes dots rects (t .marks) (t .shape) (t .holds) .few);
-          opened = omega (arith, root-total s nodes dots rects (t .marks) (t .shape) (t .holds));
-        };
+        stands = rw deep stands;
+        grows = record { hits = omega (arith, stands .few); opened = omega (arith, root-total s nodes dots rects (t .marks) (t .shape) (t .holds)) };
         fits = fits;
         cellFits = rw e (root-range (s .settings) (tree-root t));
       }
 
-  pub root-met : (q : AABB) (room : ℕ) (row : List ℕ) (cell : CenteredAABB) (row′ : List ℕ) (r : Found) → cell ≡ rootCell (s .settings)
-      → NodeWalked q cell nodes dots rects room row (record { hits = 0; opened = 0 }) 0 (D (s .settings)) row′ r → Met s q nodes dots rects room row row′ r
+  pub root-met : (q : AABB) (room : ℕ) (row : List ℕ) {cell : CenteredAABB} {levels : ℕ} (row′ : List ℕ) (r : Found)
+      → cell ≡ rootCell (s .settings) → levels ≡ D (s .settings) → NodeWalked q cell nodes dots rects room row start 0 levels row′ r
+      → Met s q nodes dots rects room row row′ r
   unfolding NodeWalked Met after rowAfter listed opensFor rootData
-  root-met q room row cell row′ r e walked = λ marks x h.
+  root-met q room row row′ r e deep walked = λ marks x h.
       let n = root x in
       let same = holds-settings (world s nodes dots rects marks) x h in
-      let l = walked (x .tree) n (root-stands s nodes dots rects marks x h) (ap rootCell (sym same) ∙ sym e) in
+      let stands = root-stands s nodes dots rects marks x h in
+      let l = walked (x .tree) n (rw deep stands) (ap rootCell (sym same) ∙ sym e) in
       let found = hits q n (x .tree) in
-      let many : 0 + length found ≡ length (map (λ d. d .dot .id) found) = omega (arith, length-map found) in
+      let many : 0 + length found ≡ length (ids found) = omega (arith, length-map (λ (d : Placed). d .dot .id) found) in
       let nodes-opened : 0 + opened q n (x .tree) ≡ opened q n (x .tree) = omega arith in
       (l .answer ∙ (λ i. record { hits = many i; opened = nodes-opened i }), l .written)
 
@@ -75,41 +79,38 @@ module _ (s : State) (nodes dots : List ℕ) (rects : List ℤ) where
 
   -- ---- how many there are
 
-  pub listed-few : (q : AABB) (marks : List ℕ) (x : Shape) → Holds (world s nodes dots rects marks) x → (length (listed q x) ≤ s .live) × (s .live ≤ 65536)
-  listed-few q marks x h =
-      let live = holds-represented (world s nodes dots rects marks) x h .live in
-      (omega (arith, listed-le q x (h .valid), live), omega (arith, live-and-free x (h .valid), h .valid .placesFit, live))
-
-  pub counted-hits : (q : AABB) (r : Found) → Counted s q nodes dots rects r → (marks : List ℕ) (x : Shape) → Holds (world s nodes dots rects marks) x → r .hits ≡ length (listed q x)
+  counted-hits : (q : AABB) (r : Found) → Counted s q nodes dots rects r
+      → (marks : List ℕ) (x : Shape) → Holds (world s nodes dots rects marks) x → r .hits ≡ length (listed q x)
   unfolding Counted
   counted-hits q r c marks x h = ap (λ (f : Found). f .hits) (c marks x h)
 
   -- ---- the answer
 
-  -- 8: the ids outnumber the row, and nothing is changed
-  pub queried-many : (q : AABB) (row : List ℕ) (r : Found) → Counted s q nodes dots rects r → length row < r .hits → Queried s q nodes dots rects row row (tooMany (r .hits))
+  -- refusal 8: the ids outnumber the row, and nothing is changed
+  pub queried-many : (q : AABB) (row : List ℕ) (r : Found) → Counted s q nodes dots rects r → length row < r .hits
+      → Queried s q nodes dots rects row row (tooMany (r .hits))
   unfolding Queried queryRule cleared
   queried-many q row r c short = λ marks x h.
       let many = counted-hits q r c marks x h in
       rw (lt-ltb (length row) (length (listed q x)) (omega (arith, many)))
       (ap (λ (n : ℕ). exit (world s nodes dots rects (replicate (length marks) 0)) row (tooMany n)) many)
 
+  -- there is room for all that is listed: for every live dot, or for those that were counted
+  abbrev Fits : AABB → ℕ → Type 0
+  Fits q room = (marks : List ℕ) (x : Shape) → Holds (world s nodes dots rects marks) x → length (listed q x) ≤ room
+
+  pub room-live : (q : AABB) (room : ℕ) → s .live ≤ room → Fits q room
+  room-live q room l marks x h = omega (arith, listed-le q x (h .valid), holds-represented (world s nodes dots rects marks) x h .live)
+
+  pub room-counted : (q : AABB) (room : ℕ) (r : Found) → Counted s q nodes dots rects r → r .hits ≤ room → Fits q room
+  room-counted q room r c l marks x h = omega (arith, counted-hits q r c marks x h)
+
   -- the row begins with the ids and keeps its tail
   pub queried-listed : (q : AABB) (row row′ : List ℕ) (r : Found) → Met s q nodes dots rects (length row) row row′ r
-      → ((marks : List ℕ) (x : Shape) → Holds (world s nodes dots rects marks) x → length (listed q x) ≤ length row)
-      → Queried s q nodes dots rects row row′ (answered r)
+      → Fits q (length row) → Queried s q nodes dots rects row row′ (answered r)
   unfolding Met Queried queryRule cleared
   queried-listed q row row′ r m fits = λ marks x h.
       let found = m marks x h in
       let written = found .1 ∙ kept-whole (length row) row (listed q x) (fits marks x h) (fits marks x h) in
       let words = h .words in
       rw (le-ltb (length row) (length (listed q x)) (fits marks x h)) (λ i. exit (words i) (written i) (answered (found .0 i)))
-
-  -- there is room: for every live dot, or for those that were counted
-  pub room-live : (q : AABB) (room : ℕ) → s .live ≤ room → (marks : List ℕ) (x : Shape) → Holds (world s nodes dots rects marks) x
-      → length (listed q x) ≤ room
-  room-live q room l marks x h = omega (arith, listed-few q marks x h .0)
-
-  pub room-counted : (q : AABB) (room : ℕ) (r : Found) → Counted s q nodes dots rects r → r .hits ≤ room
-      → (marks : List ℕ) (x : Shape) → Holds (world s nodes dots rects marks) x → length (listed q x) ≤ room
-  room-counted q room r c l marks x h = omega (arith, counted-hits q r c marks x h)

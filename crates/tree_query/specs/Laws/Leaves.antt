@@ -27,45 +27,51 @@ use Rattle.model.specs.Laws.Query.{leaves-length}
 use Rattle.model.specs.Laws.Layout.{holds-settings}
 use Rattle.tree.specs.Operations.{HasTree}
 use Rattle.tree.specs.Standing.{Stands, root-stands, root-total}
-use Rattle.tree_query.specs.Rows.{keptAll, kept-whole}
-use Rattle.tree_query.specs.Queries.{tree-settings}
+use Rattle.tree_query.specs.Rows.{keptAll}
 use Rattle.tree_query.specs.Leaves.{Shaped, LeafStands, LeafWalk, LeafWalked}
-use Rattle.tree_query.specs.LeafLaws.{words-total}
 use Rattle.tree_query.specs.Answers.{LeavesMet, LeavesListed}
+use Rattle.tree_query.specs.Laws.Rows.{kept-whole}
+use Rattle.tree_query.specs.Laws.Queries.{tree-settings}
+use Rattle.tree_query.specs.Laws.LeafGroups.{words-total}
 
 shaped : (nodes dots : List ℕ) (rects : List ℤ) (a : ℕ) (t : Tree) → Represents (read nodes dots rects) a t → Shaped nodes a t
 shaped nodes dots rects a (leaf chain) r = r .0
 shaped nodes dots rects a (branch g f) r = (r .0, r .1, λ i b. shaped nodes dots rects (childNode g i) (f i) (r .2 i b))
 
 leaf-stands : (nodes dots : List ℕ) (rects : List ℤ) (levels a : ℕ) (t : Tree) → Stands nodes dots rects levels a t → LeafStands nodes levels a t
-leaf-stands nodes dots rects levels a t s = record { shaped = shaped nodes dots rects a t (s .represents); shallow = s .shallow; nodesIn = s .nodesIn; few = s .few }
+leaf-stands nodes dots rects levels a t s =
+    record { shaped = shaped nodes dots rects a t (s .represents); shallow = s .shallow; nodesIn = s .nodesIn; few = s .few }
 
 module _ (s : State) (nodes : List ℕ) where
   pub leaf-settings : HasTree s nodes → inRange (s .settings) ≡ true
   leaf-settings h = tree-settings s nodes (h .dots) (h .rects) (h .tree)
 
-  pub root-leaves : (room : ℕ) (row : List ℤ) (n : NodeData) → HasTree s nodes → room ≤ length row → n ≡ rootData (s .settings) → LeafWalk n nodes room row 0 0 (D (s .settings))
+  pub root-leaves : {room : ℕ} {row : List ℤ} {n : NodeData} {levels : ℕ} → HasTree s nodes → room ≤ length row
+      → n ≡ rootData (s .settings) → levels ≡ D (s .settings) → LeafWalk n nodes room row 0 0 levels
   unfolding rootData
-  root-leaves room row n h fits e =
+  root-leaves {n = n} {levels = levels} h fits e deep =
       let t = h .tree in
       let x = t .shape in
       let within = deepest-within (s .settings) (leaf-settings h) in
       let depth : n .depth ≡ 0 = ap (λ (m : NodeData). m .depth) e in
+      let stands = root-stands s nodes (h .dots) (h .rects) (t .marks) x (t .holds) in
       record {
         tree = x .tree;
-        stands = leaf-stands nodes (h .dots) (h .rects) (D (s .settings)) 0 (x .tree) (root-stands s nodes (h .dots) (h .rects) (t .marks) x (t .holds));
+        stands = leaf-stands nodes (h .dots) (h .rects) levels 0 (x .tree) (rw deep stands);
         small = omega (arith, root-total s nodes (h .dots) (h .rects) (t .marks) x (t .holds));
         fits = fits;
         cellFits = rw e (root-range (s .settings) (accepted (s .settings) (leaf-settings h) .root));
         deep = omega (arith, within, depth);
       }
 
-  pub leaves-met : (room : ℕ) (row : List ℤ) (n : NodeData) (row′ : List ℤ) (r : ℕ) → n ≡ rootData (s .settings) → LeafWalked n nodes room row 0 0 (D (s .settings)) row′ r
-      → LeavesMet s nodes room row row′ r
+  pub leaves-met : (room : ℕ) (row : List ℤ) {n : NodeData} {levels : ℕ} (row′ : List ℤ) (r : ℕ)
+      → n ≡ rootData (s .settings) → levels ≡ D (s .settings)
+      → LeafWalked n nodes room row 0 0 levels row′ r → LeavesMet s nodes room row row′ r
   unfolding LeafWalked LeavesMet leaves
-  leaves-met room row n row′ r e w = λ dots rects marks x h.
+  leaves-met room row {n} {levels} row′ r e deep w = λ dots rects marks x h.
       let same : n ≡ root x = e ∙ ap rootData (holds-settings (world s nodes dots rects marks) x h) in
-      let l = w (x .tree) (leaf-stands nodes dots rects (D (s .settings)) 0 (x .tree) (root-stands s nodes dots rects marks x h)) in
+      let stands = root-stands s nodes dots rects marks x h in
+      let l = w (x .tree) (leaf-stands nodes dots rects levels 0 (x .tree) (rw deep stands)) in
       let words = ap (λ (m : NodeData). leavesOf m (x .tree)) same in
       let many : 0 + length (leavesOf n (x .tree)) ≡ length (leavesOf (root x) (x .tree)) = omega (arith, ap length words) in
       (l .position ∙ many, l .written ∙ ap (keptAll room row 0) words)
@@ -90,18 +96,19 @@ module _ (s : State) (nodes : List ℕ) where
 
   -- ---- the answer
 
-  module _ (room : ℕ) (other other′ : List ℤ) (r : ℕ) (count : LeavesMet s nodes room other other′ r) where
-    pub leaves-many : (row : List ℤ) → length row < r → LeavesListed s nodes row row (tooMany (r / 6))
+  module _ (other other′ : List ℤ) (r : ℕ) (count : LeavesMet s nodes 0 other other′ r) (row : List ℤ) where
+    pub leaves-many : length row < r → LeavesListed s nodes row row (tooMany (r / 6))
     unfolding LeavesMet LeavesListed leavesRule cleared
-    leaves-many row short = λ dots rects marks x h.
+    leaves-many short = λ dots rects marks x h.
         let many : r ≡ 6 * leafNumber x = count dots rects marks x h .0 ∙ six x in
         let number : r / 6 ≡ leafNumber x = omega (arith, many) in
         rw (lt-ltb (length row) (6 * leafNumber x) (omega (arith, many)))
         (ap (λ (n : ℕ). exit (world s nodes dots rects (replicate (length marks) 0)) row (tooMany n)) number)
 
-    pub leaves-listed : (row row′ : List ℤ) (k : ℕ) → r ≤ length row → LeavesMet s nodes (length row) row row′ k → LeavesListed s nodes row row′ (answered (r / 6))
+    pub leaves-listed : (row′ : List ℤ) (k : ℕ) → r ≤ length row → LeavesMet s nodes (length row) row row′ k
+        → LeavesListed s nodes row row′ (answered (r / 6))
     unfolding LeavesMet LeavesListed leavesRule cleared
-    leaves-listed row row′ k fits m = λ dots rects marks x h.
+    leaves-listed row′ k fits m = λ dots rects marks x h.
         let many : r ≡ 6 * leafNumber x = count dots rects marks x h .0 ∙ six x in
         let number : r / 6 ≡ leafNumber x = omega (arith, many) in
         let long : length (leaves x) ≤ length row = omega (arith, six x, many) in

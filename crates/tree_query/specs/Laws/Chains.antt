@@ -4,9 +4,10 @@
 --     rest-start, rest-turn, rest-end      the loop's three steps
 --     rest-place, rest-room        what a turn asks: the place that it reads is in the rows, and the row has room
 use mathlib.Core.Path.{_≡_, refl, ap, sym, _∙_, subst}
-use mathlib.Core.List.{List, [], _∷_, map}
+use mathlib.Core.List.{List, [], _∷_}
 use mathlib.Core.Bool.{Bool, true, false, not, cond}
 use Prim.Native.Nat.{ℕ, _+_, _-_, _≤_, _<_}
+use native.Mathlib.Numerals.{add-one}
 use native.Mathlib.Omega.{arith}
 use lib.IntN.{ℤ}
 use lib.ListN.{length}
@@ -24,8 +25,9 @@ use Rattle.model.specs.Memory.{read, nextAt, dotAt, Chained}
 use Rattle.memory.specs.Rows.{HasPlace, HasRect}
 use Rattle.tree.specs.Standing.{InRows}
 use Rattle.model.specs.declared.answers.Found.{Found}
-use Rattle.tree_query.specs.Rows.{kept, keptAll, kept-length}
-use Rattle.tree_query.specs.Walks.{chainHits, hitsAfter, rowWith, after, rowAfter, Left, ChainWalk, ChainWalked}
+use Rattle.tree_query.specs.Rows.{kept, keptAll}
+use Rattle.tree_query.specs.Walks.{ids, chainHits, hitsAfter, rowWith, after, rowAfter, Left, ChainWalk, ChainWalked}
+use Rattle.tree_query.specs.Laws.Rows.{kept-length}
 
 -- ---- one dot
 
@@ -46,9 +48,6 @@ module _ (q : AABB) (d : Dot) (room : ℕ) (row : List ℕ) (at : ℕ) where
   dot-hit {b} test n row′ k = let e = sym test ∙ not-false b n in (rw e refl, rw e k)
 
 -- ---- the loop
-
-abbrev ids : List Placed → List ℕ
-ids ds = map (λ d. d .dot .id) ds
 
 module _ (q : AABB) (dots : List ℕ) (rects : List ℤ) (room : ℕ) where
   abbrev Chain : ℕ → List Placed → Type 0
@@ -78,14 +77,16 @@ module _ (q : AABB) (dots : List ℕ) (rects : List ℤ) (room : ℕ) where
 
   module _ {row₀ : List ℕ} {at₀ head count : ℕ} {row : List ℕ} {at place left : ℕ} (inv : Rest row₀ at₀ head count row at place left) where
     turn-of : (whole : List Placed) → RestOf row₀ at₀ whole row at place left → 0 < left
-        → RestOf row₀ at₀ whole (rowWith q (dotAt dots rects place) room row at) (hitsAfter q (dotAt dots rects place) at) (nextAt dots place) (left - 1)
+        → RestOf row₀ at₀ whole (rowWith q (dotAt dots rects place) room row at) (hitsAfter q (dotAt dots rects place) at)
+        (nextAt dots place) (left - 1)
     unfolding hitsAfter rowWith
     turn-of whole r h = go (r .chain) (r .stands) (r .long) (r .inRows) (r .listed) (r .written)
       where
         go : (chain : List Placed) → Chain place chain → length chain ≡ left → (All (InRows dots rects) whole → All (InRows dots rects) chain)
             → at + length (chainHits q chain) ≡ at₀ + length (chainHits q whole)
             → keptAll room row at (ids (chainHits q chain)) ≡ keptAll room row₀ at₀ (ids (chainHits q whole))
-            → RestOf row₀ at₀ whole (cond (isHit q (dotAt dots rects place)) (kept room row at (dotAt dots rects place .id)) row) (cond (isHit q (dotAt dots rects place)) (at + 1) at) (nextAt dots place) (left - 1)
+            → RestOf row₀ at₀ whole (rowWith q (dotAt dots rects place) room row at) (hitsAfter q (dotAt dots rects place) at)
+            (nextAt dots place) (left - 1)
         go [] s l i c w = absurd (omega (arith, l))
         go (d ∷ ds) s l i c w =
             let at-place : dotAt dots rects place ≡ d .dot = ap (dotAt dots rects) (s .0) ∙ s .1 in
@@ -102,7 +103,7 @@ module _ (q : AABB) (dots : List ℕ) (rects : List ℤ) (room : ℕ) where
               inRows = λ a. i a .1;
               listed = omega (arith, rw e at c);
               written = ap (λ (x : Dot). keptAll room (kept room row at (x .id)) (at + 1) (ids (chainHits q ds))) at-place
-                  ∙ ap (λ (k : ℕ). keptAll room (kept room row at (d .dot .id)) k (ids (chainHits q ds))) (native.Mathlib.Numerals.add-one at) ∙ (rw e at w);
+                  ∙ ap (λ (k : ℕ). keptAll room (kept room row at (d .dot .id)) k (ids (chainHits q ds))) (add-one at) ∙ (rw e at w);
             }))
             (λ e.
             let miss : isHit q (dotAt dots rects place) ≡ false = ap (isHit q) at-place ∙ e in
@@ -117,7 +118,8 @@ module _ (q : AABB) (dots : List ℕ) (rects : List ℤ) (room : ℕ) where
     unfolding hitsAfter
     at-most = byBool (isHit q (dotAt dots rects place)) (λ e. rw e (omega arith)) (λ e. rw e (omega arith))
 
-    turned : 0 < left → Rest row₀ at₀ head count (rowWith q (dotAt dots rects place) room row at) (hitsAfter q (dotAt dots rects place) at) (nextAt dots place) (left - 1)
+    turned : 0 < left → Rest row₀ at₀ head count (rowWith q (dotAt dots rects place) room row at) (hitsAfter q (dotAt dots rects place) at)
+        (nextAt dots place) (left - 1)
     turned h =
         record {
           same = row-kept ∙ inv .same;
@@ -146,7 +148,8 @@ module _ (q : AABB) (dots : List ℕ) (rects : List ℤ) (room : ℕ) where
     rest-room w h = (omega (arith, inv .same, w .fits), omega (arith, inv .bound))
 
 -- nothing is left: the whole chain is listed
-module _ (q : AABB) (dots : List ℕ) (rects : List ℤ) (room : ℕ) {row₀ : List ℕ} (found : Found) {head count : ℕ} {row : List ℕ} {at place left : ℕ} where
+module _ (q : AABB) (dots : List ℕ) (rects : List ℤ) (room : ℕ) {row₀ : List ℕ} (found : Found)
+    {head count : ℕ} {row : List ℕ} {at place left : ℕ} where
   pub rest-end : Rest q dots rects room row₀ (found .hits) head count row at place left → left ≤ 0
       → ChainWalked q dots rects room row₀ found head count row (record { hits = at; opened = found .opened })
   unfolding ChainWalked after rowAfter

@@ -1,0 +1,98 @@
+-- A call's answer is known by its case, the call left what it left, and these bytes were written: the line of the call's reply.
+--     make-refused, made           make
+--     insert-refused, inserted     insert
+--     remove-refused, removed, not-removed     remove
+--     cleanup-refused, cleaned     cleanup
+--     query-refused, query-many, listed        query
+use mathlib.Core.Path.{_≡_, refl, ap, _∙_}
+use mathlib.Core.List.{List, [], _∷_}
+use mathlib.Core.Bool.{Bool, true, false}
+use Prim.Native.Nat.{ℕ}
+use lib.IntN.{ℤ}
+use lib.ListN.{take}
+use Rattle.geometry.specs.declared.aabb.AABB.{AABB}
+use Rattle.geometry.specs.declared.settings.Settings.{Settings}
+use Rattle.geometry.specs.Settings.{D}
+use Rattle.model.specs.declared.Dot.{Dot}
+use Rattle.model.specs.declared.State.{State}
+use Rattle.model.specs.Layout.{World, world}
+use Rattle.model.specs.Calls.{refused, tooMany, answered, yesNo, Make, Insert, Remove, Cleanup, Query}
+use Rattle.model.specs.declared.answers.MakeAnswer.{MakeAnswer}
+use Rattle.model.specs.declared.answers.MakeAnswer.the-variants as make
+use Rattle.model.specs.declared.answers.InsertAnswer.{InsertAnswer}
+use Rattle.model.specs.declared.answers.InsertAnswer.the-variants as insert
+use Rattle.model.specs.declared.answers.RemoveAnswer.{RemoveAnswer}
+use Rattle.model.specs.declared.answers.RemoveAnswer.the-variants as remove
+use Rattle.model.specs.declared.answers.CleanupAnswer.{CleanupAnswer}
+use Rattle.model.specs.declared.answers.CleanupAnswer.the-variants as cleanup
+use Rattle.model.specs.declared.answers.Found.{Found}
+use Rattle.model.specs.declared.answers.QueryAnswer.{QueryAnswer}
+use Rattle.model.specs.declared.answers.QueryAnswer.the-variants as query
+use Rattle.model.specs.Answers.{makeState, makeReply, insertReply, insertState, removeReply, removeState, cleanupReply, cleanupState, queryReply}
+use Rattle.lines.specs.Text.{answer}
+use Rattle.ticket.specs.declared.first.Start.the-variants as start
+use Rattle.ticket.specs.Ticket.{refusalLine, InsertLine, RemoveLine, CleanupLine, QueryLine}
+use Rattle.ticket.specs.First.{MakeLine}
+
+-- ---- make, whatever the state before it
+
+module _ {x : Settings} {a : MakeAnswer} {nodes dots : List ℕ} {rects : List ℤ} {marks : List ℕ} {nodes′ dots′ : List ℕ} {rects′ : List ℤ} {marks′ : List ℕ}
+    {next : ℕ} {bytes : List ℕ} where
+  pub make-refused : {k : ℕ} → a ≡ make.Refused k
+      → ((before : State) → Make (world before nodes dots rects marks) x (world (makeState before a) nodes′ dots′ rects′ marks′) (makeReply a))
+      → bytes ≡ refusalLine k
+      → (before : State) → MakeLine (world before nodes dots rects marks) x (start.Ended next) (world before nodes′ dots′ rects′ marks′) bytes
+  make-refused {k} e h l before = record { reply = refused k; call = rw e at (h before); goes = refl; line = l }
+
+  pub made : {s : State} {depth : ℕ} → a ≡ make.Made s
+      → ((before : State) → Make (world before nodes dots rects marks) x (world (makeState before a) nodes′ dots′ rects′ marks′) (makeReply a))
+      → depth ≡ D x → bytes ≡ answer 83 (depth ∷ [])
+      → (before : State) → MakeLine (world before nodes dots rects marks) x (start.Going s next) (world s nodes′ dots′ rects′ marks′) bytes
+  made e h d l before = record { reply = answered tt; call = rw e at (h before); goes = tt; line = l ∙ ap (λ (n : ℕ). answer 83 (n ∷ [])) d }
+
+-- ---- the calls that change the tree: w before the call, s its state
+
+module _ {w : World} {nodes dots : List ℕ} {rects : List ℤ} {marks : List ℕ} (s : State) {bytes : List ℕ} where
+  module _ {dot : Dot} {a : InsertAnswer} where
+    pub insert-refused : {k : ℕ} → a ≡ insert.Refused k → Insert w dot (world (insertState s a) nodes dots rects marks) (insertReply a)
+        → bytes ≡ refusalLine k → InsertLine w dot (world s nodes dots rects marks) bytes
+    insert-refused {k} e h l = record { reply = refused k; call = rw e at h; line = l }
+
+    pub inserted : {n : ℕ} {s′ : State} → a ≡ insert.Splits n s′ → Insert w dot (world (insertState s a) nodes dots rects marks) (insertReply a)
+        → bytes ≡ answer 73 (dot .id ∷ n ∷ []) → InsertLine w dot (world s′ nodes dots rects marks) bytes
+    inserted {n} e h l = record { reply = answered n; call = rw e at h; line = l }
+
+  module _ {dot : Dot} {a : RemoveAnswer} where
+    pub remove-refused : {k : ℕ} → a ≡ remove.Refused k → Remove w (dot .id) (dot .rect) (world (removeState s a) nodes dots rects marks) (removeReply a)
+        → bytes ≡ refusalLine k → RemoveLine w dot (world s nodes dots rects marks) bytes
+    remove-refused {k} e h l = record { reply = refused k; call = rw e at h; line = l }
+
+    pub removed : {s′ : State} → a ≡ remove.Yes s′ → Remove w (dot .id) (dot .rect) (world (removeState s a) nodes dots rects marks) (removeReply a)
+        → bytes ≡ answer 68 (dot .id ∷ 1 ∷ []) → RemoveLine w dot (world s′ nodes dots rects marks) bytes
+    removed e h l = record { reply = answered true; call = rw e at h; line = l }
+
+    pub not-removed : a ≡ remove.No → Remove w (dot .id) (dot .rect) (world (removeState s a) nodes dots rects marks) (removeReply a)
+        → bytes ≡ answer 68 (dot .id ∷ 0 ∷ []) → RemoveLine w dot (world s nodes dots rects marks) bytes
+    not-removed e h l = record { reply = answered false; call = rw e at h; line = l }
+
+  module _ {a : CleanupAnswer} where
+    pub cleanup-refused : {k : ℕ} → a ≡ cleanup.Refused k → Cleanup w (world (cleanupState s a) nodes dots rects marks) (cleanupReply a)
+        → bytes ≡ refusalLine k → CleanupLine w (world s nodes dots rects marks) bytes
+    cleanup-refused {k} e h l = record { reply = refused k; call = rw e at h; line = l }
+
+    pub cleaned : {yes? : Bool} {s′ : State} → a ≡ cleanup.Done yes? s′ → Cleanup w (world (cleanupState s a) nodes dots rects marks) (cleanupReply a)
+        → bytes ≡ answer 67 (yesNo yes? ∷ []) → CleanupLine w (world s′ nodes dots rects marks) bytes
+    cleaned {yes?} e h l = record { reply = answered yes?; call = rw e at h; line = l }
+
+-- ---- query
+
+module _ {w w′ : World} {q : AABB} {row row′ bytes : List ℕ} {a : QueryAnswer} where
+  pub query-refused : {k : ℕ} → a ≡ query.Refused k → Query w q row w′ row′ (queryReply a) → bytes ≡ refusalLine k → QueryLine w q row w′ row′ bytes
+  query-refused {k} e h l = record { reply = refused k; call = rw e at h; line = l }
+
+  pub query-many : {n : ℕ} → a ≡ query.TooMany n → Query w q row w′ row′ (queryReply a) → bytes ≡ refusalLine 8 → QueryLine w q row w′ row′ bytes
+  query-many {n} e h l = record { reply = tooMany n; call = rw e at h; line = l }
+
+  pub listed : {found : Found} → a ≡ query.Listed found → Query w q row w′ row′ (queryReply a)
+      → bytes ≡ answer 81 (found .opened ∷ found .hits ∷ take (found .hits) row′) → QueryLine w q row w′ row′ bytes
+  listed {found} e h l = record { reply = answered found; call = rw e at h; line = l }

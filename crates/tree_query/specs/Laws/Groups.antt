@@ -1,0 +1,175 @@
+-- The query's walk of a group: the loop over its children, by what the code reads of each.
+--     group-node                   what the walk of a child that is opened asks
+--     Ahead; ahead-skip, ahead-walked, ahead-end      the loop at each turn: a child that isn't opened; one that is; none is left
+use mathlib.Core.Path.{_≡_, refl, ap, sym, _∙_, subst}
+use mathlib.Core.List.{List, [], _++_}
+use mathlib.Core.Bool.{Bool, true, false, cond, not, _||_}
+use Prim.Native.Nat.{ℕ, _+_, _-_, _≤_}
+use native.Mathlib.Omega.{arith}
+use lib.IntN.{ℤ}
+use lib.Dec.{eqb}
+use lib.ListN.{length}
+use borrow.Author.Tests.{not-true, not-false}
+use Rattle.geometry.specs.declared.aabb.AABB.{AABB}
+use Rattle.geometry.specs.declared.centered_aabb.CenteredAABB.{CenteredAABB}
+use Rattle.geometry.specs.declared.node_data.NodeData.{NodeData}
+use Rattle.geometry.specs.declared.quadrants.Quadrants.{Quadrants}
+use Rattle.geometry.specs.Cells.{childCell, childData, bitAt, cellCode, opensCell, opens, InRange}
+use Rattle.geometry.specs.Laws.Codes.{opens-code}
+use Rattle.geometry.specs.Laws.Ranges.{child-range}
+use Rattle.model.specs.Trees.{Tree, childNode, size}
+use Rattle.model.specs.Query.{hits, opened}
+use Rattle.model.specs.declared.answers.Found.{Found}
+use Rattle.tree.specs.Standing.{nodeTotal, Stands}
+use Rattle.tree_query.specs.Walks.{groupHits, groupOpened, after, Left, NodeWalk, NodeWalked, GroupWalk, GroupWalked}
+use Rattle.tree_query.specs.Laws.Children.{join-step, sum-step}
+use Rattle.tree_query.specs.Laws.Found.{left-none, left-then, left-length, hits-size, opened-total}
+
+-- the first child of those left, and the others
+module _ (q : AABB) (n : NodeData) (f : ℕ → Tree) (left : ℕ) (some : 1 ≤ left) where
+  hits-step : groupHits q n f left ≡ cond (opens q n (5 - left)) (hits q (childData n (5 - left)) (f (5 - left))) [] ++ groupHits q n f (left - 1)
+  hits-step = join-step (λ i. cond (opens q n i) (hits q (childData n i) (f i)) []) left some
+
+  opened-step : groupOpened q n f left ≡ cond (opens q n (5 - left)) (opened q (childData n (5 - left)) (f (5 - left))) 0 + groupOpened q n f (left - 1)
+  opened-step = sum-step (λ i. cond (opens q n i) (opened q (childData n i) (f i)) 0) left some
+
+-- §8.2, by the code's bits: child 0, and of 1 to 4 those with both tests true
+opens-bit : (q : AABB) (cell : CenteredAABB) (quadrants : Quadrants) (i : ℕ) → quadrants .code ≡ cellCode cell q
+    → (n : NodeData) → n .cell ≡ cell → (eqb i 0 || bitAt (quadrants .code) i) ≡ opens q n i
+unfolding opens
+opens-bit q cell quadrants i e n c =
+    ap (λ (k : ℕ). eqb i 0 || bitAt k i) e ∙ opens-code cell q i ∙ ap (λ (d : CenteredAABB). opensCell d q i) (sym c)
+
+module _ {q : AABB} {cell : CenteredAABB} {quadrants : Quadrants} {nodes dots : List ℕ} {rects : List ℤ} {room : ℕ}
+    {row : List ℕ} {found : Found} {first levels left : ℕ} (some : 1 ≤ left)
+    (w : GroupWalk q cell quadrants nodes dots rects room row found first levels left) where
+  abbrev child : ℕ
+  child = 5 - left
+
+  abbrev tree : Tree
+  tree = w .children child
+
+  child-stands : Stands nodes dots rects levels (childNode (w .group) child) tree
+  child-stands = w .stands child (omega (arith, w .small)) (omega arith)
+
+  -- what the code's bit says of the child
+  opens-child : {bit shown : Bool} → bit ≡ bitAt (quadrants .code) child → (eqb child 0 || bit) ≡ shown
+      → (n : NodeData) → n .cell ≡ cell → opens q n child ≡ shown
+  opens-child read told n e = sym (opens-bit q cell quadrants child (w .code) n e) ∙ ap (λ (x : Bool). eqb child 0 || x) (sym read) ∙ told
+
+  -- the children that are left after the first, in a row of the same length
+  rest : (row′ : List ℕ) (f : Found) → length row′ ≡ length row → f .hits ≤ found .hits + size tree → f .opened ≤ found .opened + nodeTotal tree
+      → GroupWalk q cell quadrants nodes dots rects room row′ f first levels (left - 1)
+  rest row′ f l h o =
+      record {
+        group = w .group;
+        children = w .children;
+        head = w .head;
+        small = omega (arith, w .small);
+        stands = λ i low b. w .stands i (omega arith) b;
+        grows = record {
+          hits = omega (arith, w .grows .hits, sum-step (λ i. size (w .children i)) left some);
+          opened = omega (arith, w .grows .opened, sum-step (λ i. nodeTotal (w .children i)) left some);
+        };
+        fits = omega (arith, w .fits);
+        cellFits = w .cellFits;
+        code = w .code;
+      }
+
+  -- ---- the child is not opened
+
+  group-skipped : ((n : NodeData) → n .cell ≡ cell → opens q n child ≡ false) → (row′ : List ℕ) (r : Found)
+      → GroupWalked q cell nodes dots rects room row found first levels (left - 1) row′ r
+      → GroupWalked q cell nodes dots rects room row found first levels left row′ r
+  unfolding GroupWalked
+  group-skipped shut row′ r g = λ group f n h s e.
+      let l = g group f n h (λ i low b. s i (omega arith) b) e in
+      rw (hits-step q n f left some, opened-step q n f left some, shut n e)
+      (subst (λ (k : ℕ). Left room row found (groupHits q n f (left - 1)) k row′ r) (omega arith) l)
+
+  -- ---- the child is opened
+
+  pub group-node : (below : CenteredAABB) → below ≡ childCell cell child → NodeWalk below nodes dots rects room row found (first + child) levels
+  group-node below e =
+      let node : first + child ≡ childNode (w .group) child = omega (arith, w .head) in
+      record {
+        tree = tree;
+        stands = subst (λ (a : ℕ). Stands nodes dots rects levels a tree) (sym node) child-stands;
+        grows = record {
+          hits = omega (arith, w .grows .hits, sum-step (λ i. size (w .children i)) left some);
+          opened = omega (arith, w .grows .opened, sum-step (λ i. nodeTotal (w .children i)) left some);
+        };
+        fits = w .fits;
+        cellFits = subst InRange (sym e) (child-range cell child (w .cellFits));
+      }
+
+  module _ {below : CenteredAABB} (b : below ≡ childCell cell child) (row₁ : List ℕ) (f₁ : Found)
+      (node : NodeWalked q below nodes dots rects room row found (first + child) levels row₁ f₁) where
+    -- what the child's walk leaves, for the children of any tree that stands there
+    child-left : (g : ℕ) (f : ℕ → Tree) (n : NodeData) → first ≡ childNode g 0 → Stands nodes dots rects levels (childNode g child) (f child)
+        → n .cell ≡ cell → Left room row found (hits q (childData n child) (f child)) (opened q (childData n child) (f child)) row₁ f₁
+    unfolding NodeWalked childData
+    child-left g f n h s e =
+        let at : first + child ≡ childNode g child = omega (arith, h) in
+        node (f child) (childData n child) (subst (λ (a : ℕ). Stands nodes dots rects levels a (f child)) (sym at) s)
+        (ap (λ (d : CenteredAABB). childCell d child) e ∙ sym b)
+
+    some-data : NodeData
+    some-data = record { cell = cell; depth = 0; «is_child_0» = false }
+
+    group-rest : GroupWalk q cell quadrants nodes dots rects room row₁ f₁ first levels (left - 1)
+    unfolding some-data after
+    group-rest =
+        let n = childData some-data child in
+        let l = child-left (w .group) (w .children) some-data (w .head) child-stands refl in
+        rest row₁ f₁ (left-length l)
+        (omega (arith, ap (λ (f : Found). f .hits) (l .answer), hits-size q n tree))
+        (omega (arith, ap (λ (f : Found). f .opened) (l .answer), opened-total q n tree))
+
+    group-walked : ((n : NodeData) → n .cell ≡ cell → opens q n child ≡ true) → (row₂ : List ℕ) (f₂ : Found)
+        → GroupWalked q cell nodes dots rects room row₁ f₁ first levels (left - 1) row₂ f₂
+        → GroupWalked q cell nodes dots rects room row found first levels left row₂ f₂
+    unfolding GroupWalked
+    group-walked shown row₂ f₂ g = λ group f n h s e.
+        let one = child-left group f n h (s child (omega (arith, w .small)) (omega arith)) e in
+        rw (hits-step q n f left some, opened-step q n f left some, shown n e)
+        (left-then one (g group f n h (λ j low b. s j (omega arith) b) e))
+
+-- ---- the loop over a group's children
+
+module _ (q : AABB) (cell : CenteredAABB) (quadrants : Quadrants) (nodes dots : List ℕ) (rects : List ℤ) (room : ℕ)
+    (row₀ : List ℕ) (found₀ : Found) (first levels : ℕ) where
+  -- the last `left` children are to be walked; with what has been met they make the whole
+  pub record Ahead (row : List ℕ) (found : Found) (left : ℕ) : Type 0 where
+    pub walk : GroupWalk q cell quadrants nodes dots rects room row found first levels left
+    pub same : length row ≡ length row₀
+    pub whole : (row′ : List ℕ) (r : Found) → GroupWalked q cell nodes dots rects room row found first levels left row′ r
+        → GroupWalked q cell nodes dots rects room row₀ found₀ first levels 5 row′ r
+
+module _ {q : AABB} {cell : CenteredAABB} {quadrants : Quadrants} {nodes dots : List ℕ} {rects : List ℤ} {room : ℕ}
+    {row₀ : List ℕ} {found₀ : Found} {first levels : ℕ} {row : List ℕ} {found : Found} {left : ℕ}
+    (a : Ahead q cell quadrants nodes dots rects room row₀ found₀ first levels row found left) where
+  -- with what the code reads of the child
+  module _ {b : Bool} (some : 1 ≤ left) (e : b ≡ bitAt (quadrants .code) (5 - left)) where
+    pub ahead-skip : not (eqb (5 - left) 0 || b) ≡ true → Ahead q cell quadrants nodes dots rects room row₀ found₀ first levels row found (left - 1)
+    ahead-skip n =
+        record {
+          walk = rest some (a .walk) row found refl (omega arith) (omega arith);
+          same = a .same;
+          whole = λ row′ r g. a .whole row′ r (group-skipped some (a .walk) (opens-child some (a .walk) e (not-true _ n)) row′ r g);
+        }
+
+    pub ahead-walked : {below : CenteredAABB} {row₁ : List ℕ} {f₁ : Found} → not (eqb (5 - left) 0 || b) ≡ false → below ≡ childCell cell (5 - left)
+        → NodeWalked q below nodes dots rects room row found (first + (5 - left)) levels row₁ f₁ → length row₁ ≡ length row
+        → Ahead q cell quadrants nodes dots rects room row₀ found₀ first levels row₁ f₁ (left - 1)
+    ahead-walked {row₁ = row₁} {f₁ = f₁} n c node l =
+        record {
+          walk = group-rest some (a .walk) c row₁ f₁ node;
+          same = l ∙ a .same;
+          whole = λ row′ r g. a .whole row′ r (group-walked some (a .walk) c row₁ f₁ node (opens-child some (a .walk) e (not-false _ n)) row′ r g);
+        }
+
+  pub ahead-end : left ≡ 0 → GroupWalked q cell nodes dots rects room row₀ found₀ first levels 5 row found
+  unfolding GroupWalked
+  ahead-end z = a .whole row found (λ g f n h s e.
+      subst (λ (k : ℕ). Left room row found (groupHits q n f k) (groupOpened q n f k) row found) (sym z) (left-none room row found))

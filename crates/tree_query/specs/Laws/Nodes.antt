@@ -1,0 +1,141 @@
+-- The query's walk of a node, by what the code reads of it: a law for each way through the code.
+--     leaf-asks, leaf-gives        a leaf: what its chain's walk asks, and what it gives
+--     branch-level, branch-asks, branch-gives      a branch: a level is left; its group's walk
+use mathlib.Core.Path.{_≡_, ap, sym, _∙_}
+use mathlib.Core.List.{List, [], _∷_}
+use mathlib.Core.Bool.{Bool, true, false, cond, not}
+use Prim.Native.Nat.{ℕ, _+_, _-_, _≤_, _<_}
+use native.Mathlib.Omega.{arith}
+use lib.IntN.{ℤ}
+use lib.Dec.{eqb}
+use lib.ListN.{length}
+use Rattle.geometry.specs.declared.aabb.AABB.{AABB}
+use Rattle.geometry.specs.declared.centered_aabb.CenteredAABB.{CenteredAABB}
+use Rattle.geometry.specs.declared.node_data.NodeData.{NodeData}
+use Rattle.geometry.specs.declared.quadrants.Quadrants.{Quadrants}
+use Rattle.geometry.specs.Cells.{childData, cellCode, opens}
+use Rattle.model.specs.Sums.{sumBelow}
+use Rattle.model.specs.Laws.Sums.{sumOver-one, sumBelow-term}
+use Rattle.model.specs.Trees.{Placed, Tree, leaf, branch, childNode, size}
+use Rattle.model.specs.Query.{hits, opened}
+use Rattle.model.specs.Layout.{none, branchMark}
+use Rattle.model.specs.Memory.{read, firstAt, countAt, nextAt, Chained}
+use Rattle.model.specs.declared.answers.Found.{Found}
+use Rattle.memory.specs.declared.node.Node.{Node}
+use Rattle.memory.specs.Nodes.{nodeAt}
+use Rattle.tree.specs.Standing.{nodeTotal, Stands, not-branch, is-branch, mark-no-leaf, shallow-branch}
+use Rattle.tree_query.specs.Walks.{sumLast, chainHits, after, rowAfter, Left, CanGrow}
+use Rattle.tree_query.specs.Walks.{ChainWalk, ChainWalked, NodeWalk, NodeWalked, GroupWalk, GroupWalked}
+use Rattle.tree_query.specs.Laws.Children.{join-five}
+
+-- one node more is opened
+abbrev pub opening : Found → Found
+opening found = record { hits = found .hits; opened = found .opened + 1 }
+
+-- a chain does not stand in the nodes
+module _ (nodes nodes′ dots : List ℕ) (rects : List ℤ) where
+  chain-rows : (h : ℕ) (ds : List Placed) → Chained (read nodes dots rects) h ds none → Chained (read nodes′ dots rects) h ds none
+  chain-rows h [] s = s
+  chain-rows h (d ∷ ds) s = (s .0, s .1, chain-rows (nextAt dots (d .place)) ds (s .2))
+
+-- a child stands a level lower
+child-stands : {nodes dots : List ℕ} {rects : List ℤ} {levels a g : ℕ} {f : ℕ → Tree} → Stands nodes dots rects levels a (branch g f)
+    → (i : ℕ) → i < 5 → Stands nodes dots rects (levels - 1) (childNode g i) (f i)
+child-stands {levels = levels} {g = g} {f = f} s i b =
+    record {
+      represents = s .represents .2 i b;
+      shallow = shallow-branch levels g f (s .shallow) .1 i b;
+      nodesIn = s .nodesIn .1 i b;
+      dotsIn = s .dotsIn i b;
+      few = omega (arith, s .few, sumBelow-term 5 (λ j. size (f j)) i b);
+    }
+
+module _ (nodes dots : List ℕ) (rects : List ℤ) (room : ℕ) (row : List ℕ) (found : Found) (a levels : ℕ) (q : AABB) (cell : CenteredAABB)
+    {node : Node} {b : Bool} (words : node ≡ nodeAt nodes a) (told : b ≡ eqb (node .count) branchMark) where
+  -- ---- a leaf
+
+  module _ (n : not b ≡ true) where
+    pub leaf-asks : NodeWalk cell nodes dots rects room row found a levels
+        → ChainWalk dots rects room row (opening found) (node .first) (node .count)
+    leaf-asks w = rw words (go (w .tree) (w .stands) (w .grows))
+      where
+        go : (t : Tree) → Stands nodes dots rects levels a t → CanGrow found (size t) (nodeTotal t)
+            → ChainWalk dots rects room row (opening found) (firstAt nodes a) (countAt nodes a)
+        go (leaf chain) s c =
+            record {
+              chain = chain;
+              stands = chain-rows nodes [] dots rects (firstAt nodes a) chain (s .represents .1);
+              long = sym (s .represents .0);
+              dotsIn = s .dotsIn;
+              fits = w .fits;
+              grows = record { hits = omega (arith, c .hits, s .represents .0, sumOver-one chain); opened = omega (arith, c .opened) };
+            }
+        go (branch g f) s c = absurd (not-branch nodes a words told n (s .represents .0))
+
+    pub leaf-gives : (row′ : List ℕ) (r : Found) → ChainWalked q dots rects room row (opening found) (node .first) (node .count) row′ r
+        → NodeWalked q cell nodes dots rects room row found a levels row′ r
+    unfolding ChainWalked NodeWalked after rowAfter
+    leaf-gives row′ r w = go
+      where
+        go : (t : Tree) (d : NodeData) → Stands nodes dots rects levels a t → d .cell ≡ cell
+            → Left room row found (hits q d t) (opened q d t) row′ r
+        go (leaf chain) d s e =
+            let l = (rw words at w) chain (chain-rows nodes [] dots rects (firstAt nodes a) chain (s .represents .1)) (sym (s .represents .0)) in
+            let more : found .opened + 1 + 0 ≡ found .opened + 1 = omega arith in
+            record {
+              answer = l .answer ∙ (λ i. record { hits = found .hits + length (chainHits q chain); opened = more i });
+              written = l .written;
+            }
+        go (branch g f) d s e = absurd (not-branch nodes a words told n (s .represents .0))
+
+  -- ---- a branch
+
+  module _ (n : not b ≡ false) where
+    no-leaf : (chain : List Placed) → Stands nodes dots rects levels a (leaf chain) → ⊥
+    no-leaf chain s = mark-no-leaf chain (s .few) (s .represents .0) (is-branch nodes a words told n)
+
+    pub branch-level : NodeWalk cell nodes dots rects room row found a levels → 1 ≤ levels
+    branch-level w = go (w .tree) (w .stands)
+      where
+        go : (t : Tree) → Stands nodes dots rects levels a t → 1 ≤ levels
+        go (leaf chain) s = absurd (no-leaf chain s)
+        go (branch g f) s = shallow-branch levels g f (s .shallow) .0
+
+    pub branch-asks : (quadrants : Quadrants) → quadrants .code ≡ cellCode cell q → NodeWalk cell nodes dots rects room row found a levels
+        → GroupWalk q cell quadrants nodes dots rects room row (opening found) (node .first) (levels - 1) 5
+    branch-asks quadrants e w = rw words (go (w .tree) (w .stands) (w .grows))
+      where
+        go : (t : Tree) → Stands nodes dots rects levels a t → CanGrow found (size t) (nodeTotal t)
+            → GroupWalk q cell quadrants nodes dots rects room row (opening found) (firstAt nodes a) (levels - 1) 5
+        go (leaf chain) s c = absurd (no-leaf chain s)
+        go (branch g f) s c =
+            record {
+              group = g;
+              children = f;
+              head = s .represents .1;
+              small = omega arith;
+              stands = λ i low b. child-stands s i b;
+              grows = record { hits = omega (arith, c .hits); opened = omega (arith, c .opened) };
+              fits = w .fits;
+              cellFits = w .cellFits;
+              code = e;
+            }
+
+    pub branch-gives : (row′ : List ℕ) (r : Found)
+        → GroupWalked q cell nodes dots rects room row (opening found) (node .first) (levels - 1) 5 row′ r
+        → NodeWalked q cell nodes dots rects room row found a levels row′ r
+    unfolding GroupWalked NodeWalked after rowAfter
+    branch-gives row′ r w = go
+      where
+        go : (t : Tree) (d : NodeData) → Stands nodes dots rects levels a t → d .cell ≡ cell
+            → Left room row found (hits q d t) (opened q d t) row′ r
+        go (leaf chain) d s e = absurd (no-leaf chain s)
+        go (branch g f) d s e =
+            let l = (rw words at w) g f d (s .represents .1) (λ i low b. child-stands s i b) e in
+            let H : ℕ → List Placed = λ i. cond (opens q d i) (hits q (childData d i) (f i)) [] in
+            let O : ℕ → ℕ = λ i. cond (opens q d i) (opened q (childData d i) (f i)) 0 in
+            let many : found .opened + 1 + sumLast 5 O ≡ found .opened + (1 + sumBelow 5 O) = omega arith in
+            record {
+              answer = l .answer ∙ (λ i. record { hits = found .hits + length (join-five H i); opened = many i });
+              written = l .written ∙ ap (λ ds. rowAfter room row found ds) (join-five H);
+            }
