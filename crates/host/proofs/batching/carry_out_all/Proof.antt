@@ -25,6 +25,9 @@ abbrev μ-loop : tie.MeasureT-loop
 μ-loop nodes₀ dots₀ rects₀ marks records answers₀ many batched₀ count i₀ nodes dots rects answers batched i =
     count - i
 
+abbrev start : tie.At-loop Inv-loop μ-loop → tie.Start Inv-loop μ-loop
+start c = search
+
 loop-holds : tie.Need-loop-holds Inv-loop μ-loop
 loop-holds c = (omega arith, refl, refl, refl, refl, refl, (λ s before b. progress-begun _ _ _ _ _ _ _ _ _ b))
 
@@ -43,12 +46,12 @@ record-in-requires c κs =
 one-requires : tie.Need-one-requires Inv-loop μ-loop
 one-requires c κs =
     let at-loop : tie.In-loop Inv-loop μ-loop = search in
-    let at-loop' : tie.At-loop Inv-loop μ-loop = search in
+    let at-head : tie.At-loop Inv-loop μ-loop = search in
     let at-begin : tie.After-begin Inv-loop μ-loop = search in
-    let at-start : tie.Start Inv-loop μ-loop = at-begin .before .before .before .before .before .before .before .before .before .before in
+    let at-start = start at-head in
     let row = at-start .args .records .now in
-    let p = at-loop' .loop .inv .6 _ _ (begun-records row (at-begin .begin .ensures)) in
-    let ready = progress-ready _ _ _ _ _ _ _ _ _ p (at-loop' .loop .inv .2) (omega (arith, at-loop .loop-test .taken, at-loop' .loop .inv .1)) in
+    let p = at-head .loop .inv .6 _ _ (begun-records row (at-begin .begin .ensures)) in
+    let ready = progress-ready _ _ _ _ _ _ _ _ _ p (at-head .loop .inv .2) (omega (arith, at-loop .loop-test .taken, at-head .loop .inv .1)) in
     (ready .1, ready .2)
 
 add-i : tie.Need-add-i Inv-loop μ-loop
@@ -69,12 +72,11 @@ loop-again c =
     let at-one : tie.After-one Inv-loop μ-loop = search in
     let at-record-in : tie.After-record-in Inv-loop μ-loop = search in
     let at-loop : tie.In-loop Inv-loop μ-loop = search in
-    let at-loop' : tie.At-loop Inv-loop μ-loop = search in
-    let at-start : tie.Start Inv-loop μ-loop
-    = at-loop' .before .before .before .before .before .before .before .before .before .before .before .before .before in
+    let at-head : tie.At-loop Inv-loop μ-loop = search in
+    let at-start = start at-head in
     let row = at-start .args .records .now in
     let more = at-loop .loop-test .taken in
-    let l = at-loop' .loop in
+    let l = at-head .loop in
     let next : l .i + 1 ≡ suc (l .i) = omega arith in
     let going : l .i < l .batched .count = omega (arith, more, l .inv .1) in (
       omega (arith, more),
