@@ -24,15 +24,17 @@ gone c =
 asks : (c : tie.After-split-down) → let args = c .before .before .before .before .before .before .args in
     Lands (c .split-down .last .0) (c .split-down .last .1 .0) (args .rects .now) (c .split-down .result .node) (args .state .«free_place»)
 asks c =
-    let pre = c .before .before .before .before .before .before .pre in
-    let args = c .before .before .before .before .before .before .args in
+    let at-start : tie.Start = search in
+    let pre = at-start .pre in
+    let args = at-start .args in
     land-asks (pre .shape) (args .dot) (args .state .«free_place») (c .split-down .last .0) (c .split-down .last .1 .0) (args .rects .now) (c .split-down .result .group) (c .split-down .result .node) (c .split-down .ensures .0)
     (gone c) (pre .starts .room)
 
 split-down-requires : tie.Need-split-down-requires
 split-down-requires c κs =
-    let pre = c .before .before .before .before .before .pre in
-    let args = c .before .before .before .before .before .args in
+    let at-start : tie.Start = search in
+    let pre = at-start .pre in
+    let args = at-start .args in
     record {
       shape = pre .shape;
       dot = args .dot;
@@ -41,39 +43,33 @@ split-down-requires c κs =
       going = starts-going (args .state) (args .dot) (args .nodes .now) (args .dots .now) (args .rects .now) (args .leaf) (args .splits) (pre .marks) (pre .shape) (pre .starts);
     }
 
-cast-next-at : tie.Need-cast-next-at
-cast-next-at c = search needs
-
 next-at-requires : tie.Need-next-at-requires
-next-at-requires c κs = asks (c .before .before .before .before .before) .place
+next-at-requires c κs =
+    let at-split-down : tie.After-split-down = search in
+    asks at-split-down .place
 
 push-dot-requires : tie.Need-push-dot-requires
-push-dot-requires c κs = asks (c .before .before .before .before .before .before .before .before .before)
+push-dot-requires c κs =
+    let at-split-down : tie.After-split-down = search in
+    asks at-split-down
 
 add-changed : tie.Need-add-changed
 add-changed c =
-    let args = c .before .before .before .before .before .before .before .before .before .before .before .before .before .before .before .before .before .before .before .before .before .before .args in
-    let pre = c .before .before .before .before .before .before .before .before .before .before .before .before .before .before .before .before .before .before .before .before .before .before .pre in
+    let at-start : tie.Start = search in
+    let args = at-start .args in
+    let pre = at-start .pre in
     omega (arith, starts-live (args .state) (args .dot) (args .nodes .now) (args .dots .now) (args .rects .now) (args .leaf) (args .splits) (pre .marks) (pre .shape) (pre .starts))
-
-changed-requires : tie.Need-changed-requires
-changed-requires c κs = search needs
-
-same-length : tie.Need-same-length
-same-length c = search needs
-
-same-length-2 : tie.Need-same-length-2
-same-length-2 c = search needs
-
-same-length-3 : tie.Need-same-length-3
-same-length-3 c = search needs
 
 returns : tie.Need-returns
 returns c =
-    let args = c .before .before .before .before .before .before .before .before .before .before .before .before .before .before .before .before .before .before .before .before .before .before .before .args in
-    let split-down = c .before .before .before .before .before .before .before .before .before .before .before .before .before .before .before .before .before .split-down in
-    let next-at = c .before .before .before .before .before .before .before .before .before .before .before .next-at in
-    let push-dot = c .before .before .before .before .before .before .before .push-dot in
+    let at-push-dot : tie.After-push-dot = search in
+    let at-next-at : tie.After-next-at = search in
+    let at-split-down : tie.After-split-down = search in
+    let at-start : tie.Start = search in
+    let args = at-start .args in
+    let split-down = at-split-down .split-down in
+    let next-at = at-next-at .next-at in
+    let push-dot = at-push-dot .push-dot in
     λ marks x S.
     subst (λ (s′ : State). Holds (world s′ (push-dot .last .0) (push-dot .last .1 .0) (push-dot .last .1 .1 .0) (replicate (length marks) 0)) (inserted (args .dot) x)) (sym (c .changed .ensures))
     (landed-holds (args .state) (args .dot) (args .nodes .now) (args .dots .now) (args .rects .now) (args .leaf) (args .splits) marks x S
@@ -85,13 +81,5 @@ pub insert-at-spec : {M : Type 1} → statement M
 insert-at-spec =
     tie.close
     (tie.spec
-    split-down-requires
-    cast-next-at
-    next-at-requires
-    push-dot-requires
-    add-changed
-    changed-requires
-    same-length
-    same-length-2
-    same-length-3
-    returns)
+    split-down-requires (λ c. search needs) next-at-requires push-dot-requires add-changed
+    (λ c κs. search needs) (λ c. search needs) (λ c. search needs) (λ c. search needs) returns)

@@ -8,26 +8,14 @@ use borrow.Author.Needs.{needs}
 use Rattle.tree_insert.proofs.push_dot.Statement.{statement}
 use Rattle.tree_insert.proofs.push_dot.Tie as tie
 
-set-dot-requires : tie.Need-set-dot-requires
-set-dot-requires c κs = search needs
-
-push-place-requires : tie.Need-push-place-requires
-push-place-requires c κs = search needs
-
-same-length : tie.Need-same-length
-same-length c = search needs
-
-same-length-2 : tie.Need-same-length-2
-same-length-2 c = search needs
-
-same-length-3 : tie.Need-same-length-3
-same-length-3 c = search needs
-
 returns : tie.Need-returns
 returns c =
-    let args = c .before .before .before .before .before .before .before .before .before .before .before .before .before .before .before .args in
-    let set-dot = c .before .before .before .before .before .before .before .before .before .before .set-dot in
-    let push-place = c .before .before .before .before .push-place in (
+    let at-push-place : tie.After-push-place = search in
+    let at-set-dot : tie.After-set-dot = search in
+    let at-start : tie.Start = search in
+    let args = at-start .args in
+    let set-dot = at-set-dot .set-dot in
+    let push-place = at-push-place .push-place in (
       push-place .ensures .0,
       push-place .ensures .1 ∙ ap (λ (l : List ℕ). setNextAt l (args .place) (firstAt (args .nodes .now) (args .node))) (set-dot .ensures .0),
       set-dot .ensures .1,
@@ -36,4 +24,6 @@ returns c =
 pub push-dot-spec : {M : Type 1} → statement M
 push-dot-spec =
     tie.close
-    (tie.spec set-dot-requires push-place-requires same-length same-length-2 same-length-3 returns)
+    (tie.spec
+    (λ c κs. search needs) (λ c κs. search needs) (λ c. search needs) (λ c. search needs)
+    (λ c. search needs) returns)

@@ -1,6 +1,5 @@
 -- A search whose invariant is that what it finds from here on is what it finds from the head; the places left are counted.
 use mathlib.Core.Path.{refl, sym, _∙_}
-use Prim.Native.Nat.{_-_}
 use native.Mathlib.Omega.{arith}
 use Rattle.model.specs.Layout.{none}
 use Rattle.memory.specs.Rows.{HasPlace}
@@ -42,8 +41,10 @@ loop-less c = omega arith
 
 loop-again : tie.Need-loop-again Inv-loop μ-loop
 loop-again c =
-    let args = c .before .before .before .before .before .before .args in
-    let loop = c .before .before .before .before .loop in
+    let at-loop : tie.At-loop Inv-loop μ-loop = search in
+    let at-start : tie.Start Inv-loop μ-loop = search in
+    let args = at-start .args in
+    let loop = at-loop .loop in
     hit-on (args .dots .now) (args .id) (args .leaf .first) 4294967295 (args .leaf .count) (loop .at) (loop .previous) (loop .left) (c .next-at .result) (loop .inv) (c .before .before .before .if1 .left) (λ e. c .before .if2 .left (c .before .before .id-at .ensures ∙ e)) (c .next-at .ensures)
 
 returns : tie.Need-returns Inv-loop μ-loop
@@ -55,7 +56,8 @@ returns c =
 returns-2 : tie.Need-returns-2 Inv-loop μ-loop
 unfolding none
 returns-2 c =
-    let args = c .before .before .before .before .before .args in
+    let at-start : tie.Start Inv-loop μ-loop = search in
+    let args = at-start .args in
     let loop = c .before .before .before .loop in
     λ chain l. let s = loop .inv chain l in
     sym (s .2 ∙ hit-here (args .dots .now) (args .id) (loop .at) (loop .left) (loop .previous) (s .0) (s .1) (c .before .before .if1 .left) (sym (c .before .id-at .ensures) ∙ c .if2 .taken))

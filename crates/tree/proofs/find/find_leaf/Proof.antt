@@ -35,11 +35,14 @@ branches c = sym (ap (λ (w : Node). w .count) (c .before .before .loop .inv .0)
 facts : (c : tie.After-struct-known2 Inv-loop μ-loop) → let args = c .before .before .before .before .before .before .before .before .before .args in let root = c .before .before .before .before .before .before .before .root in let loop = c .before .before .before .before .before .loop in
     WayOn (args .nodes .now) (args .rect) (root .result) (loop .«data») (loop .node) (loop .words .first) (c .before .route .result) (loop .inv .2) (branches (c .before .before .before)) (ap (λ (w : Node). w .first) (loop .inv .0)) (c .before .route .ensures)
 facts c =
-    let args = c .before .before .before .before .before .before .before .before .before .args in
-    let pre = c .before .before .before .before .before .before .before .before .before .pre in
-    let root = c .before .before .before .before .before .before .before .root in
-    let loop = c .before .before .before .before .before .loop in
-    way-facts (args .nodes .now) (args .rect) (root .result) (loop .«data») (loop .node) (loop .words .first) (c .before .route .result) (loop .inv .2) (branches (c .before .before .before)) (ap (λ (w : Node). w .first) (loop .inv .0)) (c .before .route .ensures) (pre .tree) (guided-here (c .before .before .before .before .before .before .before))
+    let at-loop : tie.At-loop Inv-loop μ-loop = search in
+    let at-root : tie.After-root Inv-loop μ-loop = search in
+    let at-start : tie.Start Inv-loop μ-loop = search in
+    let args = at-start .args in
+    let pre = at-start .pre in
+    let root = at-root .root in
+    let loop = at-loop .loop in
+    way-facts (args .nodes .now) (args .rect) (root .result) (loop .«data») (loop .node) (loop .words .first) (c .before .route .result) (loop .inv .2) (branches (c .before .before .before)) (ap (λ (w : Node). w .first) (loop .inv .0)) (c .before .route .ensures) (pre .tree) (guided-here at-root)
 
 root-requires : tie.Need-root-requires Inv-loop μ-loop
 root-requires c κs = c .before .pre .accepted
@@ -58,9 +61,6 @@ loop-holds c = (
   λ t g. (t, g, refl),
 )
 
-route-requires : tie.Need-route-requires Inv-loop μ-loop
-route-requires c κs = search needs
-
 cast-node : tie.Need-cast-node Inv-loop μ-loop
 cast-node c = omega (arith, facts c .node)
 
@@ -71,7 +71,9 @@ add-node : tie.Need-add-node Inv-loop μ-loop
 add-node c = omega (arith, facts c .node)
 
 toward-requires : tie.Need-toward-requires Inv-loop μ-loop
-toward-requires c κs = (c .before .before .before .before .before .loop .inv .1, omega (arith, facts c .depth), c .before .route .ensures)
+toward-requires c κs =
+    let at-loop : tie.At-loop Inv-loop μ-loop = search in
+    (at-loop .loop .inv .1, omega (arith, facts c .depth), c .before .route .ensures)
 
 node-at-requires-2 : tie.Need-node-at-requires-2 Inv-loop μ-loop
 node-at-requires-2 c κs = facts (c .before) .node
@@ -82,20 +84,26 @@ loop-less c = facts (c .before .before) .less (c .before .toward .result) (c .be
 loop-again : tie.Need-loop-again Inv-loop μ-loop
 unfolding childData
 loop-again c =
-    let args = c .before .before .before .before .before .before .before .before .before .before .before .args in
-    let root = c .before .before .before .before .before .before .before .before .before .root in
-    let loop = c .before .before .before .before .before .before .before .loop in
+    let at-then1 : tie.Then1 Inv-loop μ-loop = search in
+    let at-loop : tie.At-loop Inv-loop μ-loop = search in
+    let at-root : tie.After-root Inv-loop μ-loop = search in
+    let at-start : tie.Start Inv-loop μ-loop = search in
+    let args = at-start .args in
+    let root = at-root .root in
+    let loop = at-loop .loop in
     let route = c .before .before .before .route in (
       c .node-at2 .ensures,
       subst (λ (n : NodeData). InRange (n .cell)) (sym (c .before .toward .ensures)) (child-range _ _ (loop .inv .1)),
-      way-on (args .nodes .now) (args .rect) (root .result) (loop .«data») (loop .node) (loop .words .first) (route .result) (loop .inv .2) (branches (c .before .before .before .before .before)) (ap (λ (w : Node). w .first) (loop .inv .0)) (route .ensures) (c .before .toward .result) (c .before .toward .ensures),
+      way-on (args .nodes .now) (args .rect) (root .result) (loop .«data») (loop .node) (loop .words .first) (route .result) (loop .inv .2) (branches at-then1) (ap (λ (w : Node). w .first) (loop .inv .0)) (route .ensures) (c .before .toward .result) (c .before .toward .ensures),
     )
 
 returns : tie.Need-returns Inv-loop μ-loop
 unfolding branchMark
 returns c =
-    let args = c .before .before .before .before .before .before .args in
-    let root = c .before .before .before .before .root in
+    let at-root : tie.After-root Inv-loop μ-loop = search in
+    let at-start : tie.Start Inv-loop μ-loop = search in
+    let args = at-start .args in
+    let root = at-root .root in
     let loop = c .before .before .loop in
     λ t g.
     let o = loop .inv .2 t (subst (λ (n : NodeData). Guided (args .nodes .now) n 0 t) (sym (root .ensures)) g) in
@@ -105,17 +113,5 @@ pub find-leaf-spec : {M : Type 1} → statement M
 find-leaf-spec =
     tie.close
     (tie.spec
-    Inv-loop
-    μ-loop
-    root-requires
-    node-at-requires
-    loop-holds
-    route-requires
-    cast-node
-    cast-node-2
-    add-node
-    toward-requires
-    node-at-requires-2
-    loop-less
-    loop-again
-    returns)
+    Inv-loop μ-loop root-requires node-at-requires loop-holds (λ c κs. search needs) cast-node
+    cast-node-2 add-node toward-requires node-at-requires-2 loop-less loop-again returns)

@@ -31,9 +31,11 @@ here c =
 counted : (c : tie.Joined1 Inv-loop μ-loop) → let args = c .before .before .before .before .before .before .args in let loop = c .before .before .before .before .loop in
     c .if1 .count ≡ loop .count + cond (inBounds (args .bounds) (rectAt (args .rects .now) (loop .at))) 1 0
 counted c =
-    let args = c .before .before .before .before .before .before .args in
+    let at-loop : tie.At-loop Inv-loop μ-loop = search in
+    let at-start : tie.Start Inv-loop μ-loop = search in
+    let args = at-start .args in
     let told = c .before .holds .ensures ∙ ap (inBounds (args .bounds)) (c .before .before .rect-at .ensures) in
-    let n = c .before .before .before .before .loop .count in
+    let n = at-loop .loop .count in
     ⊎-elim
     (λ w. w .1 ∙ ap (λ (b : Bool). n + cond b 1 0) (sym (sym told ∙ w .0 .taken)))
     (λ w. w .1 ∙ omega arith ∙ ap (λ (b : Bool). n + cond b 1 0) (sym (sym told ∙ w .0 .left)))
@@ -48,28 +50,34 @@ cast-place c = omega (arith, here c .0)
 rect-at-requires : tie.Need-rect-at-requires Inv-loop μ-loop
 rect-at-requires c κs = here c .1
 
-holds-requires : tie.Need-holds-requires Inv-loop μ-loop
-holds-requires c κs = search needs
-
 add-count : tie.Need-add-count Inv-loop μ-loop
 add-count c =
-    let args = c .before .before .before .before .before .before .args in
-    let f : args .chain .count < 4294967296 = search needs in omega (arith, c .before .before .before .before .loop .inv .0, c .before .before .before .loop-test .taken)
+    let at-loop : tie.At-loop Inv-loop μ-loop = search in
+    let at-start : tie.Start Inv-loop μ-loop = search in
+    let args = at-start .args in
+    let f : args .chain .count < 4294967296 = search needs in omega (arith, at-loop .loop .inv .0, c .before .before .before .loop-test .taken)
 
 next-at-requires : tie.Need-next-at-requires Inv-loop μ-loop
 next-at-requires c κs = here (c .before .before .before) .0
 
 sub-left : tie.Need-sub-left Inv-loop μ-loop
-sub-left c = omega (arith, c .before .before .before .before .loop-test .taken)
+sub-left c =
+    let at-loop : tie.In-loop Inv-loop μ-loop = search in
+    omega (arith, at-loop .loop-test .taken)
 
 loop-less : tie.Need-loop-less Inv-loop μ-loop
-loop-less c = omega (arith, c .before .before .before .before .loop-test .taken)
+loop-less c =
+    let at-loop : tie.In-loop Inv-loop μ-loop = search in
+    omega (arith, at-loop .loop-test .taken)
 
 loop-again : tie.Need-loop-again Inv-loop μ-loop
 loop-again c =
-    let args = c .before .before .before .before .before .before .before .args in
-    let loop = c .before .before .before .before .before .loop in
-    let loop-test = c .before .before .before .before .loop-test in (
+    let at-loop : tie.In-loop Inv-loop μ-loop = search in
+    let at-loop' : tie.At-loop Inv-loop μ-loop = search in
+    let at-start : tie.Start Inv-loop μ-loop = search in
+    let args = at-start .args in
+    let loop = at-loop' .loop in
+    let loop-test = at-loop .loop-test in (
       omega (arith, counted (c .before), one-most (inBounds (args .bounds) (rectAt (args .rects .now) (loop .at))), loop .inv .0, loop-test .taken),
       tally-on (args .dots .now) (args .rects .now) (args .bounds) (args .chain .first) (args .chain .count) (loop .at) (loop .left) (loop .count) (c .next-at .result) (c .before .if1 .count) (loop .inv .1) (loop-test .taken) (c .next-at .ensures) (counted (c .before)),
     )
@@ -83,15 +91,5 @@ pub count-within-spec : {M : Type 1} → statement M
 count-within-spec =
     tie.close
     (tie.spec
-    Inv-loop
-    μ-loop
-    loop-holds
-    cast-place
-    rect-at-requires
-    holds-requires
-    add-count
-    next-at-requires
-    sub-left
-    loop-less
-    loop-again
-    returns)
+    Inv-loop μ-loop loop-holds cast-place rect-at-requires (λ c κs. search needs) add-count
+    next-at-requires sub-left loop-less loop-again returns)

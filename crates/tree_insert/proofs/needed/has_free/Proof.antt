@@ -17,9 +17,10 @@ abbrev μ-loop : tie.MeasureT-loop
 here : (c : tie.Else1 Inv-loop μ-loop) → HasNode (c .before .before .before .before .args .nodes .now) (c .before .before .loop .at)
 unfolding none
 here c =
-    let pre = c .before .before .before .before .pre in
+    let at-start : tie.Start Inv-loop μ-loop = search in
+    let pre = at-start .pre in
     let loop = c .before .before .loop in
-    let w = loop .inv (pre .free) (pre .listed) in free-here (c .before .before .before .before .args .nodes .now) (loop .at) (w .0) (w .1) (c .if1 .left)
+    let w = loop .inv (pre .free) (pre .listed) in free-here (at-start .args .nodes .now) (loop .at) (w .0) (w .1) (c .if1 .left)
 
 loop-holds : tie.Need-loop-holds Inv-loop μ-loop
 loop-holds c = λ free f. (free, f, refl)
@@ -27,7 +28,8 @@ loop-holds c = λ free f. (free, f, refl)
 returns : tie.Need-returns Inv-loop μ-loop
 unfolding none
 returns c =
-    let args = c .before .before .before .before .args in
+    let at-start : tie.Start Inv-loop μ-loop = search in
+    let args = at-start .args in
     let loop = c .before .before .loop in
     free-short (args .nodes .now) (args .head) (args .wanted) (loop .at) (loop .left) (loop .inv) (c .before .loop-test .taken) (c .if1 .taken)
 
@@ -46,7 +48,8 @@ loop-less c = omega (arith, c .before .before .loop-test .taken)
 loop-again : tie.Need-loop-again Inv-loop μ-loop
 unfolding none
 loop-again c =
-    let args = c .before .before .before .before .before .args in
+    let at-start : tie.Start Inv-loop μ-loop = search in
+    let args = at-start .args in
     let loop = c .before .before .before .loop in
     free-on (args .nodes .now) (args .head) (args .wanted) (loop .at) (loop .left) (c .node-at .result .first) (loop .inv) (c .before .before .loop-test .taken) (c .before .if1 .left) (ap (λ (v : Node). v .first) (c .node-at .ensures))
 

@@ -28,46 +28,42 @@ full c = sym (c .before .must-split .ensures) ∙ c .if1 .taken
 above : (c : tie.Then1 Inv-loop μ-loop) → let loop = c .before .before .loop in
     (loop .reached .«is_child_0» ≡ false) × (loop .reached .depth < 255)
 above c =
-    let args = c .before .before .before .before .before .args in
+    let at-start : tie.Start Inv-loop μ-loop = search in
+    let args = at-start .args in
     let loop = c .before .before .loop in
     need-above (args .settings) (args .dots .now) (args .rects .now) (args .chain) (args .node-data) (args .rect) (loop .reached) (loop .bounds) (loop .count) (loop .splits)
-    (loop .inv .2) (c .before .before .before .before .before .pre .settings) (full c)
+    (loop .inv .2) (at-start .pre .settings) (full c)
 
 falls : (c : tie.After-child Inv-loop μ-loop) → stepsLeft (c .child .result) < stepsLeft (c .before .before .before .before .before .before .loop .reached)
 falls c =
-    let loop = c .before .before .before .before .before .before .loop in
-    let a = above (c .before .before .before .before) in
+    let at-then1 : tie.Then1 Inv-loop μ-loop = search in
+    let at-loop : tie.At-loop Inv-loop μ-loop = search in
+    let loop = at-loop .loop in
+    let a = above at-then1 in
     subst (λ (n : NodeData). stepsLeft n < stepsLeft (loop .reached)) (sym (c .child .ensures)) (steps-fall (loop .reached) (c .before .before .route .result) (a .0) (a .1))
-
-all-requires : tie.Need-all-requires Inv-loop μ-loop
-all-requires c κs = search needs
 
 loop-holds : tie.Need-loop-holds Inv-loop μ-loop
 loop-holds c =
     let args = c .before .before .args in
     (c .before .before .pre .range, omega arith, need-start (args .settings) (args .dots .now) (args .rects .now) (args .chain) (args .node-data) (args .rect) (c .all .result) (c .all .ensures))
 
-must-split-requires : tie.Need-must-split-requires Inv-loop μ-loop
-must-split-requires c κs = search needs
-
-route-requires : tie.Need-route-requires Inv-loop μ-loop
-route-requires c κs = search needs
-
-below-requires : tie.Need-below-requires Inv-loop μ-loop
-below-requires c κs = search needs
-
 child-requires : tie.Need-child-requires Inv-loop μ-loop
-child-requires c κs = (c .before .before .before .before .before .loop .inv .0, omega (arith, above (c .before .before .before) .1))
+child-requires c κs =
+    let at-loop : tie.At-loop Inv-loop μ-loop = search in
+    (at-loop .loop .inv .0, omega (arith, above (c .before .before .before) .1))
 
 count-within-requires : tie.Need-count-within-requires Inv-loop μ-loop
 count-within-requires c κs =
-    let pre = c .before .before .before .before .before .before .before .before .before .pre in
+    let at-start : tie.Start Inv-loop μ-loop = search in
+    let pre = at-start .pre in
     record { chain = pre .chain; standing = pre .standing }
 
 add-splits : tie.Need-add-splits Inv-loop μ-loop
 add-splits c =
-    let args = c .before .before .before .before .before .before .before .before .before .before .args in
-    let loop = c .before .before .before .before .before .before .before .loop in
+    let at-loop : tie.At-loop Inv-loop μ-loop = search in
+    let at-start : tie.Start Inv-loop μ-loop = search in
+    let args = at-start .args in
+    let loop = at-loop .loop in
     omega (arith, loop .inv .1, steps-most (args .node-data))
 
 loop-less : tie.Need-loop-less Inv-loop μ-loop
@@ -76,37 +72,30 @@ loop-less c = falls (c .before)
 loop-again : tie.Need-loop-again Inv-loop μ-loop
 unfolding childData
 loop-again c =
-    let args = c .before .before .before .before .before .before .before .before .before .before .args in
-    let pre = c .before .before .before .before .before .before .before .before .before .before .pre in
-    let loop = c .before .before .before .before .before .before .before .loop in
+    let at-then1 : tie.Then1 Inv-loop μ-loop = search in
+    let at-loop : tie.At-loop Inv-loop μ-loop = search in
+    let at-start : tie.Start Inv-loop μ-loop = search in
+    let args = at-start .args in
+    let pre = at-start .pre in
+    let loop = at-loop .loop in
     let route = c .before .before .before .route in
     let below = c .before .before .below in (
       subst (λ (n : NodeData). InRange (n .cell)) (sym (c .before .child .ensures)) (child-range _ _ (loop .inv .0)),
       omega (arith, falls (c .before), loop .inv .1),
-      need-on (args .settings) (args .dots .now) (args .rects .now) (args .chain) (args .node-data) (args .rect) (loop .reached) (loop .bounds) (loop .count) (loop .splits) (loop .inv .2) (pre .settings) (full (c .before .before .before .before .before))
+      need-on (args .settings) (args .dots .now) (args .rects .now) (args .chain) (args .node-data) (args .rect) (loop .reached) (loop .bounds) (loop .count) (loop .splits) (loop .inv .2) (pre .settings) (full at-then1)
           (route .result) (c .before .child .result) (below .result) (c .count-within .result) (route .ensures) (c .before .child .ensures) (below .ensures) (c .count-within .ensures),
     )
 
 returns : tie.Need-returns Inv-loop μ-loop
 returns c =
-    let args = c .before .before .before .before .before .args in
+    let at-start : tie.Start Inv-loop μ-loop = search in
+    let args = at-start .args in
     let loop = c .before .before .loop in
-    need-done (args .settings) (args .dots .now) (args .rects .now) (args .chain) (args .node-data) (args .rect) (loop .reached) (loop .bounds) (loop .count) (loop .splits) (loop .inv .2) (c .before .before .before .before .before .pre .settings) (sym (c .before .must-split .ensures) ∙ c .if1 .left)
+    need-done (args .settings) (args .dots .now) (args .rects .now) (args .chain) (args .node-data) (args .rect) (loop .reached) (loop .bounds) (loop .count) (loop .splits) (loop .inv .2) (at-start .pre .settings) (sym (c .before .must-split .ensures) ∙ c .if1 .left)
 
 pub splits-needed-spec : {M : Type 1} → statement M
 splits-needed-spec =
     tie.close
     (tie.spec
-    Inv-loop
-    μ-loop
-    all-requires
-    loop-holds
-    must-split-requires
-    route-requires
-    below-requires
-    child-requires
-    count-within-requires
-    add-splits
-    loop-less
-    loop-again
-    returns)
+    Inv-loop μ-loop (λ c κs. search needs) loop-holds (λ c κs. search needs) (λ c κs. search needs)
+    (λ c κs. search needs) child-requires count-within-requires add-splits loop-less loop-again returns)

@@ -1,7 +1,7 @@
 -- A loop whose invariant is that dealing what is left is dealing the whole; the places left are counted.
 use mathlib.Core.Path.{_≡_, refl, ap, sym, _∙_, subst}
 use mathlib.Core.Bool.{false}
-use Prim.Native.Nat.{ℕ, _-_, _≤_}
+use Prim.Native.Nat.{ℕ, _≤_}
 use native.Mathlib.Omega.{arith}
 use borrow.Author.Needs.{needs}
 use lib.ListN.{length}
@@ -59,9 +59,6 @@ next-at-requires c κs = asks (c .before) .place
 rect-at-requires : tie.Need-rect-at-requires Inv-loop μ-loop
 rect-at-requires c κs = asks (c .before .before) .rect
 
-route-requires : tie.Need-route-requires Inv-loop μ-loop
-route-requires c κs = search needs
-
 cast-child : tie.Need-cast-child Inv-loop μ-loop
 cast-child c = omega (arith, asks-child c .child5)
 
@@ -73,26 +70,35 @@ push-place-requires c κs = let a = asks-child (c .before .before) in (a .node, 
 
 sub-left : tie.Need-sub-left Inv-loop μ-loop
 sub-left c =
-    let loop-test = c .before .before .before .before .before .before .before .before .before .before .before .loop-test in
+    let at-loop : tie.In-loop Inv-loop μ-loop = search in
+    let loop-test = at-loop .loop-test in
     omega (arith, loop-test .taken)
 
 loop-less : tie.Need-loop-less Inv-loop μ-loop
 loop-less c =
-    let loop-test = c .before .before .before .before .before .before .before .before .before .before .before .loop-test in
+    let at-loop : tie.In-loop Inv-loop μ-loop = search in
+    let loop-test = at-loop .loop-test in
     omega (arith, loop-test .taken)
 
 loop-again : tie.Need-loop-again Inv-loop μ-loop
 loop-again c =
-    let args = c .before .before .before .before .before .before .before .before .before .before .before .before .before .before .before .args in
-    let loop = c .before .before .before .before .before .before .before .before .before .before .before .before .loop in
-    let next-at = c .before .before .before .before .before .before .before .before .before .next-at in
-    let rect-at = c .before .before .before .before .before .before .before .before .rect-at in
-    let route = c .before .before .before .before .before .before .before .route in
-    let push-place = c .before .before .before .before .push-place in (
+    let at-push-place : tie.After-push-place Inv-loop μ-loop = search in
+    let at-route : tie.After-route Inv-loop μ-loop = search in
+    let at-rect-at : tie.After-rect-at Inv-loop μ-loop = search in
+    let at-next-at : tie.After-next-at Inv-loop μ-loop = search in
+    let at-loop : tie.In-loop Inv-loop μ-loop = search in
+    let at-loop' : tie.At-loop Inv-loop μ-loop = search in
+    let at-start : tie.Start Inv-loop μ-loop = search in
+    let args = at-start .args in
+    let loop = at-loop' .loop in
+    let next-at = at-next-at .next-at in
+    let rect-at = at-rect-at .rect-at in
+    let route = at-route .route in
+    let push-place = at-push-place .push-place in (
       ap length (push-place .ensures .0) ∙ node-length _ _ _ ∙ loop .inv .0,
       ap length (push-place .ensures .1) ∙ next-length _ _ _ ∙ loop .inv .1,
       deal-on (args .nodes .now) (args .dots .now) (args .rects .now) (args .cell) (args .group) (args .chain .first) (args .chain .count) (loop .nodes) (loop .dots) (loop .at) (loop .left) (loop .inv .2)
-          (some (c .before .before .before .before .before .before .before .before .before .before .before)) (rect-at .result) (route .result) (next-at .result) _ _ (rect-at .ensures) (route .ensures) (next-at .ensures) (push-place .ensures .0) (push-place .ensures .1),
+          (some at-loop) (rect-at .result) (route .result) (next-at .result) _ _ (rect-at .ensures) (route .ensures) (next-at .ensures) (push-place .ensures .0) (push-place .ensures .1),
     )
 
 same-length : tie.Need-same-length Inv-loop μ-loop
@@ -103,7 +109,8 @@ same-length-2 c = c .before .loop .inv .1
 
 returns : tie.Need-returns Inv-loop μ-loop
 returns c =
-    let args = c .before .before .before .before .args in
+    let at-start : tie.Start Inv-loop μ-loop = search in
+    let args = at-start .args in
     λ n e s. let r = c .before .loop .inv .2 n e s in
     sym (deal-over (c .before .loop .nodes) (c .before .loop .dots) (args .rects .now) n (args .group) (c .before .loop .at) (c .before .loop .left) (omega (arith, c .loop-test .left)) (r .0)) ∙ r .1
 
@@ -111,19 +118,6 @@ pub deal-chain-spec : {M : Type 1} → statement M
 deal-chain-spec =
     tie.close
     (tie.spec
-    Inv-loop
-    μ-loop
-    loop-holds
-    cast-place
-    next-at-requires
-    rect-at-requires
-    route-requires
-    cast-child
-    add-push-place
-    push-place-requires
-    sub-left
-    loop-less
-    loop-again
-    same-length
-    same-length-2
+    Inv-loop μ-loop loop-holds cast-place next-at-requires rect-at-requires (λ c κs. search needs)
+    cast-child add-push-place push-place-requires sub-left loop-less loop-again same-length same-length-2
     returns)

@@ -1,6 +1,6 @@
 -- A loop whose invariant is that the insert is on its way; the splits left are counted.
 use mathlib.Core.Path.{_≡_, refl, ap, sym, _∙_, subst}
-use Prim.Native.Nat.{ℕ, _-_, _<_}
+use Prim.Native.Nat.{ℕ, _<_}
 use native.Mathlib.Omega.{arith}
 use borrow.Author.Needs.{needs}
 use lib.ListN.{length}
@@ -28,14 +28,17 @@ going c =
 
 here : (c : tie.In-loop Inv-loop μ-loop) → Splittable (c .before .loop .nodes) (c .before .loop .dots) (c .before .before .before .before .before .args .rects .now) (c .before .loop .node) (c .before .loop .head)
 here c =
-    let pre = c .before .before .before .before .before .pre in
-    go-splits (pre .shape) (pre .dot) (pre .placeHead) (c .before .loop .nodes) (c .before .loop .dots) (c .before .before .before .before .before .args .rects .now) (c .before .loop .head) (c .before .loop .node) (c .before .loop .node-data) (c .before .loop .rest)
+    let at-start : tie.Start Inv-loop μ-loop = search in
+    let pre = at-start .pre in
+    go-splits (pre .shape) (pre .dot) (pre .placeHead) (c .before .loop .nodes) (c .before .loop .dots) (at-start .args .rects .now) (c .before .loop .head) (c .before .loop .node) (c .before .loop .node-data) (c .before .loop .rest)
     (going c) (c .loop-test .taken)
 
 child5 : (c : tie.After-route Inv-loop μ-loop) → c .route .result < 5
 child5 c =
-    let args = c .before .before .before .before .before .before .before .before .before .before .before .before .before .before .args in
-    let loop = c .before .before .before .before .before .before .before .before .before .before .loop in
+    let at-loop : tie.At-loop Inv-loop μ-loop = search in
+    let at-start : tie.Start Inv-loop μ-loop = search in
+    let args = at-start .args in
+    let loop = at-loop .loop in
     omega (arith, c .route .ensures, route-child (loop .node-data) (args .rect))
 
 loop-holds : tie.Need-loop-holds Inv-loop μ-loop
@@ -44,45 +47,55 @@ loop-holds c = (refl, refl, λ x dot placeHead e g. g)
 split-leaf-requires : tie.Need-split-leaf-requires Inv-loop μ-loop
 split-leaf-requires c κs = here (c .before .before .before)
 
-route-requires : tie.Need-route-requires Inv-loop μ-loop
-route-requires c κs = search needs
-
 cast-node : tie.Need-cast-node Inv-loop μ-loop
 cast-node c =
-    let loop = c .before .before .before .before .before .before .before .before .before .before .loop in
-    omega (arith, here (c .before .before .before .before .before .before .before .before .before) .nodesIn, loop .inv .0)
+    let at-loop : tie.In-loop Inv-loop μ-loop = search in
+    let at-loop' : tie.At-loop Inv-loop μ-loop = search in
+    let loop = at-loop' .loop in
+    omega (arith, here at-loop .nodesIn, loop .inv .0)
 
 cast-node-2 : tie.Need-cast-node-2 Inv-loop μ-loop
 cast-node-2 c = omega (arith, child5 c)
 
 add-node : tie.Need-add-node Inv-loop μ-loop
-add-node c = omega (arith, here (c .before .before .before .before .before .before .before .before .before) .nodesIn, child5 c)
+add-node c =
+    let at-loop : tie.In-loop Inv-loop μ-loop = search in
+    omega (arith, here at-loop .nodesIn, child5 c)
 
 child-requires : tie.Need-child-requires Inv-loop μ-loop
 child-requires c κs =
-    let pre = c .before .before .before .before .before .before .before .before .before .before .before .before .before .before .pre in
-    let args = c .before .before .before .before .before .before .before .before .before .before .before .before .before .before .args in
-    let loop = c .before .before .before .before .before .before .before .before .before .before .loop in
-    let loop-test = c .before .before .before .before .before .before .before .before .before .loop-test in
-    let g = going (c .before .before .before .before .before .before .before .before .before) in
+    let at-loop : tie.In-loop Inv-loop μ-loop = search in
+    let at-loop' : tie.At-loop Inv-loop μ-loop = search in
+    let at-start : tie.Start Inv-loop μ-loop = search in
+    let pre = at-start .pre in
+    let args = at-start .args in
+    let loop = at-loop' .loop in
+    let loop-test = at-loop .loop-test in
+    let g = going at-loop in
     (g .range, omega (arith, go-depth (pre .shape) (pre .dot) (pre .placeHead) (loop .nodes) (loop .dots) (args .rects .now) (loop .head) (loop .node) (loop .node-data) (loop .rest) g (loop-test .taken)))
 
 sub-rest : tie.Need-sub-rest Inv-loop μ-loop
 sub-rest c =
-    let loop-test = c .before .before .before .before .before .before .before .before .before .before .loop-test in
+    let at-loop : tie.In-loop Inv-loop μ-loop = search in
+    let loop-test = at-loop .loop-test in
     omega (arith, loop-test .taken)
 
 loop-less : tie.Need-loop-less Inv-loop μ-loop
 loop-less c =
-    let loop-test = c .before .before .before .before .before .before .before .before .before .before .loop-test in
+    let at-loop : tie.In-loop Inv-loop μ-loop = search in
+    let loop-test = at-loop .loop-test in
     omega (arith, loop-test .taken)
 
 loop-again : tie.Need-loop-again Inv-loop μ-loop
 loop-again c =
-    let args = c .before .before .before .before .before .before .before .before .before .before .before .before .before .before .before .args in
-    let loop = c .before .before .before .before .before .before .before .before .before .before .before .loop in
-    let loop-test = c .before .before .before .before .before .before .before .before .before .before .loop-test in
-    let split-leaf = c .before .before .before .before .before .before .split-leaf in
+    let at-split-leaf : tie.After-split-leaf Inv-loop μ-loop = search in
+    let at-loop : tie.In-loop Inv-loop μ-loop = search in
+    let at-loop' : tie.At-loop Inv-loop μ-loop = search in
+    let at-start : tie.Start Inv-loop μ-loop = search in
+    let args = at-start .args in
+    let loop = at-loop' .loop in
+    let loop-test = at-loop .loop-test in
+    let split-leaf = at-split-leaf .split-leaf in
     let k = split-leaf .kept in (
       k .0 ∙ loop .inv .0,
       k .1 .0 ∙ loop .inv .1,
@@ -101,24 +114,13 @@ same-length-2 : tie.Need-same-length-2 Inv-loop μ-loop
 same-length-2 c = c .before .loop .inv .1
 
 returns : tie.Need-returns Inv-loop μ-loop
-returns c = (c .before .loop .node-data, λ x dot placeHead e g. subst (λ (k : ℕ). Going x dot placeHead (c .before .loop .nodes) (c .before .loop .dots) (c .before .before .before .before .before .args .rects .now) (c .before .loop .head) (c .before .loop .node) (c .before .loop .node-data) k) (omega (arith, c .loop-test .left)) (c .before .loop .inv .2 x dot placeHead e g))
+returns c =
+    let at-start : tie.Start Inv-loop μ-loop = search in
+    (c .before .loop .node-data, λ x dot placeHead e g. subst (λ (k : ℕ). Going x dot placeHead (c .before .loop .nodes) (c .before .loop .dots) (at-start .args .rects .now) (c .before .loop .head) (c .before .loop .node) (c .before .loop .node-data) k) (omega (arith, c .loop-test .left)) (c .before .loop .inv .2 x dot placeHead e g))
 
 pub split-down-spec : {M : Type 1} → statement M
 split-down-spec =
     tie.close
     (tie.spec
-    Inv-loop
-    μ-loop
-    loop-holds
-    split-leaf-requires
-    route-requires
-    cast-node
-    cast-node-2
-    add-node
-    child-requires
-    sub-rest
-    loop-less
-    loop-again
-    same-length
-    same-length-2
-    returns)
+    Inv-loop μ-loop loop-holds split-leaf-requires (λ c κs. search needs) cast-node cast-node-2 add-node
+    child-requires sub-rest loop-less loop-again same-length same-length-2 returns)
