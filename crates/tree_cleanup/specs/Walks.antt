@@ -15,9 +15,8 @@ use Rattle.model.specs.Cleanup.{downFrom, turned}
 use Rattle.model.specs.Memory.{read, countAt, Represents, FreeGroups}
 use Rattle.memory.specs.Nodes.{emptyLeaf}
 use Rattle.memory.specs.Rows.{HasNode, setNodeAt}
-use Rattle.tree.specs.Frames.{nodeCount}
-use Rattle.tree.specs.Collapses.{overGroup, Walk, cleanWords, TreeAndFree}
-use Rattle.tree.specs.Standing.{NodesIn, nodeTotal}
+use Rattle.tree.specs.Trees.{nodeCount, overGroup, NodesIn, nodeTotal}
+use Rattle.tree.specs.Cleanup.{Walk, cleanWords, TreeAndFree}
 use Rattle.tree_cleanup.specs.declared.Swept.{Swept}
 
 abbrev pub HasGroup : List ℕ → ℕ → Type 0

@@ -5,8 +5,10 @@ use native.Mathlib.Omega.{arith}
 use Rattle.model.specs.declared.State.{State}
 use Rattle.model.specs.Shapes.{inserted}
 use Rattle.model.specs.Layout.{world, Holds}
-use Rattle.tree_insert.specs.Growing.{Going}
-use Rattle.tree_insert.specs.Landings.{Lands, land-asks, starts-going, starts-live, landed-holds}
+use Rattle.tree_insert.specs.SplitDown.{Inserting}
+use Rattle.tree_insert.specs.Push.{CanPush}
+use Rattle.tree_insert.specs.Laws.Push.{can-push}
+use Rattle.tree_insert.specs.Laws.InsertAt.{starts-inserting, starts-live, landed-holds}
 use borrow.Author.Needs.{needs}
 use Rattle.tree_insert.proofs.insert_at.Statement.{statement}
 use Rattle.tree_insert.proofs.insert_at.Tie as tie
@@ -14,20 +16,20 @@ use Rattle.tree_insert.proofs.insert_at.Tie as tie
 -- the insert that the function was called for, once its splits are made
 gone : (c : tie.After-split-down)
     → let pre = c .before .before .before .before .before .before .pre in let args = c .before .before .before .before .before .before .args in
-    Going (pre .shape) (args .dot) (args .state .«free_place») (c .split-down .last .0) (c .split-down .last .1 .0) (args .rects .now) (c .split-down .result .group) (c .split-down .result .node) (c .split-down .ensures .0) 0
+    Inserting (pre .shape) (args .dot) (args .state .«free_place») (c .split-down .last .0) (c .split-down .last .1 .0) (args .rects .now) (c .split-down .result .group) (c .split-down .result .node) (c .split-down .ensures .0) 0
 gone c =
     let pre = c .before .before .before .before .before .before .pre in
     let args = c .before .before .before .before .before .before .args in
     c .split-down .ensures .1 (pre .shape) (args .dot) (args .state .«free_place») refl
-    (starts-going (args .state) (args .dot) (args .nodes .now) (args .dots .now) (args .rects .now) (args .leaf) (args .splits) (pre .marks) (pre .shape) (pre .starts))
+    (starts-inserting (args .state) (args .dot) (args .nodes .now) (args .dots .now) (args .rects .now) (args .leaf) (args .splits) (pre .marks) (pre .shape) (pre .starts))
 
 asks : (c : tie.After-split-down) → let args = c .before .before .before .before .before .before .args in
-    Lands (c .split-down .last .0) (c .split-down .last .1 .0) (args .rects .now) (c .split-down .result .node) (args .state .«free_place»)
+    CanPush (c .split-down .last .0) (c .split-down .last .1 .0) (args .rects .now) (c .split-down .result .node) (args .state .«free_place»)
 asks c =
     let at-start : tie.Start = search in
     let pre = at-start .pre in
     let args = at-start .args in
-    land-asks (pre .shape) (args .dot) (args .state .«free_place») (c .split-down .last .0) (c .split-down .last .1 .0) (args .rects .now) (c .split-down .result .group) (c .split-down .result .node) (c .split-down .ensures .0)
+    can-push (pre .shape) (args .dot) (args .state .«free_place») (c .split-down .last .0) (c .split-down .last .1 .0) (args .rects .now) (c .split-down .result .group) (c .split-down .result .node) (c .split-down .ensures .0)
     (gone c) (pre .starts .room)
 
 split-down-requires : tie.Need-split-down-requires
@@ -40,7 +42,7 @@ split-down-requires c κs =
       dot = args .dot;
       rect = refl;
       placeHead = args .state .«free_place»;
-      going = starts-going (args .state) (args .dot) (args .nodes .now) (args .dots .now) (args .rects .now) (args .leaf) (args .splits) (pre .marks) (pre .shape) (pre .starts);
+      inserting = starts-inserting (args .state) (args .dot) (args .nodes .now) (args .dots .now) (args .rects .now) (args .leaf) (args .splits) (pre .marks) (pre .shape) (pre .starts);
     }
 
 next-at-requires : tie.Need-next-at-requires
@@ -74,7 +76,7 @@ returns c =
     subst (λ (s′ : State). Holds (world s′ (push-dot .last .0) (push-dot .last .1 .0) (push-dot .last .1 .1 .0) (replicate (length marks) 0)) (inserted (args .dot) x)) (sym (c .changed .ensures))
     (landed-holds (args .state) (args .dot) (args .nodes .now) (args .dots .now) (args .rects .now) (args .leaf) (args .splits) marks x S
     (split-down .last .0) (split-down .last .1 .0) (split-down .result .group) (split-down .result .node) (split-down .ensures .0)
-    (split-down .ensures .1 x (args .dot) (args .state .«free_place») refl (starts-going (args .state) (args .dot) (args .nodes .now) (args .dots .now) (args .rects .now) (args .leaf) (args .splits) marks x S))
+    (split-down .ensures .1 x (args .dot) (args .state .«free_place») refl (starts-inserting (args .state) (args .dot) (args .nodes .now) (args .dots .now) (args .rects .now) (args .leaf) (args .splits) marks x S))
     (next-at .result) (push-dot .last .0) (push-dot .last .1 .0) (push-dot .last .1 .1 .0) (next-at .ensures) (push-dot .ensures .0) (push-dot .ensures .1) (push-dot .ensures .2))
 
 pub insert-at-spec : {M : Type 1} → statement M

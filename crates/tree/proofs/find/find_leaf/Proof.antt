@@ -10,7 +10,8 @@ use Rattle.model.specs.Layout.{branchMark}
 use Rattle.model.specs.Memory.{countAt}
 use Rattle.memory.specs.declared.node.Node.{Node}
 use Rattle.memory.specs.Nodes.{nodeAt}
-use Rattle.tree.specs.Routes.{Guided, leafFor, guided-has, OnWay, stepsLeft, WayOn, way-on, way-facts, arrived}
+use Rattle.tree.specs.Routes.{Guided, leafFor}
+use Rattle.tree.specs.Laws.Descent.{guided-has, OnWay, stepsLeft, WayOn, way-on, way-facts, arrived}
 use Rattle.tree.proofs.find.find_leaf.Statement.{statement}
 use Rattle.tree.proofs.find.find_leaf.Tie as tie
 

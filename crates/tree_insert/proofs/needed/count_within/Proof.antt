@@ -8,8 +8,9 @@ use borrow.Author.Needs.{needs}
 use Rattle.geometry.specs.Bounds.{inBounds}
 use Rattle.model.specs.Memory.{rectAt}
 use Rattle.memory.specs.Rows.{HasPlace, HasRect}
-use Rattle.tree.specs.Chains.{standing-here}
-use Rattle.tree_insert.specs.Counting.{one-most, Tallying, tally-on, tally-over}
+use Rattle.tree.specs.Laws.Chains.{stands-here}
+use Rattle.tree_insert.specs.Laws.Bounds.{one-most}
+use Rattle.tree_insert.specs.Laws.SplitsNeeded.{Tallying, tally-on, tally-over}
 use Rattle.tree_insert.proofs.needed.count_within.Statement.{statement}
 use Rattle.tree_insert.proofs.needed.count_within.Tie as tie
 
@@ -24,8 +25,8 @@ here : (c : tie.In-loop Inv-loop μ-loop) → let args = c .before .before .befo
 here c =
     let pre = c .before .before .before .pre in
     let args = c .before .before .before .args in
-    let t = c .before .loop .inv .1 (pre .chain) (pre .standing) in
-    standing-here (args .dots .now) (args .rects .now) (c .before .loop .at) (c .before .loop .left) (t .0) (t .1) (c .loop-test .taken)
+    let t = c .before .loop .inv .1 (pre .chain) (pre .stands) in
+    stands-here (args .dots .now) (args .rects .now) (c .before .loop .at) (c .before .loop .left) (t .0) (t .1) (c .loop-test .taken)
 
 -- where the branches meet
 counted : (c : tie.Joined1 Inv-loop μ-loop) → let args = c .before .before .before .before .before .before .args in let loop = c .before .before .before .before .loop in

@@ -4,7 +4,7 @@ use native.Mathlib.Omega.{arith}
 use Rattle.model.specs.Layout.{none}
 use Rattle.memory.specs.declared.node.Node.{Node}
 use Rattle.memory.specs.Rows.{HasNode}
-use Rattle.tree_insert.specs.FreeLists.{Walking, free-here, free-on, free-short, free-enough}
+use Rattle.tree_insert.specs.Laws.FreeGroups.{Walking, free-here, free-on, free-short, free-enough}
 use Rattle.tree_insert.proofs.needed.has_free.Statement.{statement}
 use Rattle.tree_insert.proofs.needed.has_free.Tie as tie
 

@@ -8,8 +8,9 @@ use borrow.Author.Needs.{needs}
 use Rattle.geometry.specs.declared.node_data.NodeData.{NodeData}
 use Rattle.geometry.specs.Cells.{InRange, childData, maySplit}
 use Rattle.geometry.specs.Laws.Ranges.{child-range}
-use Rattle.tree.specs.Routes.{stepsLeft, steps-most, steps-fall}
-use Rattle.tree_insert.specs.Counting.{CountedAll, need-start, need-above, need-on, need-done}
+use Rattle.tree.specs.Laws.Descent.{stepsLeft, steps-most, steps-fall}
+use Rattle.tree_insert.specs.Laws.SplitsNeeded.{CountedAll, need-start, need-done}
+use Rattle.tree_insert.specs.Laws.SplitsNeeded.{need-above, need-on}
 use Rattle.tree_insert.proofs.needed.splits_needed.Statement.{statement}
 use Rattle.tree_insert.proofs.needed.splits_needed.Tie as tie
 
@@ -56,7 +57,7 @@ count-within-requires : tie.Need-count-within-requires Inv-loop μ-loop
 count-within-requires c κs =
     let at-start : tie.Start Inv-loop μ-loop = search in
     let pre = at-start .pre in
-    record { chain = pre .chain; standing = pre .standing }
+    record { chain = pre .chain; stands = pre .stands }
 
 add-splits : tie.Need-add-splits Inv-loop μ-loop
 add-splits c =

@@ -10,7 +10,7 @@ use Rattle.geometry.specs.declared.node_data.NodeData.{NodeData}
 use Rattle.geometry.specs.Cells.{routeCell}
 use Rattle.model.specs.Memory.{rectAt}
 use Rattle.memory.specs.Laws.Stores.{node-length, next-length}
-use Rattle.tree_insert.specs.Dealing.{Dealing, Turn, deal-asks, deal-on, deal-over}
+use Rattle.tree_insert.specs.Laws.Deal.{Dealing, Turn, deal-asks, deal-on, deal-over}
 use Rattle.tree_insert.proofs.split.deal_chain.Statement.{statement}
 use Rattle.tree_insert.proofs.split.deal_chain.Tie as tie
 

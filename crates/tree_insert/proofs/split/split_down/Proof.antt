@@ -6,14 +6,15 @@ use borrow.Author.Needs.{needs}
 use lib.ListN.{length}
 use Rattle.geometry.specs.Cells.{routeCell}
 use Rattle.geometry.specs.Laws.Geometry.{route-child}
-use Rattle.tree_insert.specs.Splitting.{Splittable}
-use Rattle.tree_insert.specs.Growing.{Going, Goes, go-splits, go-depth, go-on}
+use Rattle.tree_insert.specs.LeafSplit.{Splittable}
+use Rattle.tree_insert.specs.SplitDown.{Inserting, Continues}
+use Rattle.tree_insert.specs.Laws.SplitDown.{inserting-splits, inserting-depth, inserting-on}
 use Rattle.tree_insert.proofs.split.split_down.Statement.{statement}
 use Rattle.tree_insert.proofs.split.split_down.Tie as tie
 
 abbrev Inv-loop : tie.InvT-loop
 Inv-loop nodes₀ dots₀ rects group splits rect node₀ node-data₀ head₀ rest₀ nodes dots node node-data head rest =
-    (length nodes ≡ length nodes₀) × (length dots ≡ length dots₀) × Goes rect rects nodes₀ dots₀ head₀ node₀ node-data₀ rest₀ nodes dots head node node-data rest
+    (length nodes ≡ length nodes₀) × (length dots ≡ length dots₀) × Continues rect rects nodes₀ dots₀ head₀ node₀ node-data₀ rest₀ nodes dots head node node-data rest
 
 abbrev μ-loop : tie.MeasureT-loop
 μ-loop nodes₀ dots₀ rects group splits rect node₀ node-data₀ head₀ rest₀ nodes dots node node-data head rest = rest
@@ -21,16 +22,16 @@ abbrev μ-loop : tie.MeasureT-loop
 -- the insert that the function was called for
 going : (c : tie.In-loop Inv-loop μ-loop)
     → let pre = c .before .before .before .before .before .pre in
-    Going (pre .shape) (pre .dot) (pre .placeHead) (c .before .loop .nodes) (c .before .loop .dots) (c .before .before .before .before .before .args .rects .now) (c .before .loop .head) (c .before .loop .node) (c .before .loop .node-data) (c .before .loop .rest)
+    Inserting (pre .shape) (pre .dot) (pre .placeHead) (c .before .loop .nodes) (c .before .loop .dots) (c .before .before .before .before .before .args .rects .now) (c .before .loop .head) (c .before .loop .node) (c .before .loop .node-data) (c .before .loop .rest)
 going c =
     let pre = c .before .before .before .before .before .pre in
-    c .before .loop .inv .2 (pre .shape) (pre .dot) (pre .placeHead) (pre .rect) (pre .going)
+    c .before .loop .inv .2 (pre .shape) (pre .dot) (pre .placeHead) (pre .rect) (pre .inserting)
 
 here : (c : tie.In-loop Inv-loop μ-loop) → Splittable (c .before .loop .nodes) (c .before .loop .dots) (c .before .before .before .before .before .args .rects .now) (c .before .loop .node) (c .before .loop .head)
 here c =
     let at-start : tie.Start Inv-loop μ-loop = search in
     let pre = at-start .pre in
-    go-splits (pre .shape) (pre .dot) (pre .placeHead) (c .before .loop .nodes) (c .before .loop .dots) (at-start .args .rects .now) (c .before .loop .head) (c .before .loop .node) (c .before .loop .node-data) (c .before .loop .rest)
+    inserting-splits (pre .shape) (pre .dot) (pre .placeHead) (c .before .loop .nodes) (c .before .loop .dots) (at-start .args .rects .now) (c .before .loop .head) (c .before .loop .node) (c .before .loop .node-data) (c .before .loop .rest)
     (going c) (c .loop-test .taken)
 
 child5 : (c : tie.After-route Inv-loop μ-loop) → c .route .result < 5
@@ -72,7 +73,7 @@ child-requires c κs =
     let loop = at-loop' .loop in
     let loop-test = at-loop .loop-test in
     let g = going at-loop in
-    (g .range, omega (arith, go-depth (pre .shape) (pre .dot) (pre .placeHead) (loop .nodes) (loop .dots) (args .rects .now) (loop .head) (loop .node) (loop .node-data) (loop .rest) g (loop-test .taken)))
+    (g .range, omega (arith, inserting-depth (pre .shape) (pre .dot) (pre .placeHead) (loop .nodes) (loop .dots) (args .rects .now) (loop .head) (loop .node) (loop .node-data) (loop .rest) g (loop-test .taken)))
 
 sub-rest : tie.Need-sub-rest Inv-loop μ-loop
 sub-rest c =
@@ -101,9 +102,9 @@ loop-again c =
       k .1 .0 ∙ loop .inv .1,
       λ x dot placeHead e g.
           let now = loop .inv .2 x dot placeHead e g in
-          go-on x dot placeHead (loop .nodes) (loop .dots) (args .rects .now) (loop .head) (loop .node) (loop .node-data) (loop .rest) now (loop-test .taken)
+          inserting-on x dot placeHead (loop .nodes) (loop .dots) (args .rects .now) (loop .head) (loop .node) (loop .node-data) (loop .rest) now (loop-test .taken)
           (split-leaf .last .0) (split-leaf .last .1 .0) (split-leaf .result) (c .before .route .result) (c .child .result) (k .0) (k .1 .0)
-          (split-leaf .ensures .1 (loop .node-data) refl (go-splits x dot placeHead (loop .nodes) (loop .dots) (args .rects .now) (loop .head) (loop .node) (loop .node-data) (loop .rest) now (loop-test .taken)))
+          (split-leaf .ensures .1 (loop .node-data) refl (inserting-splits x dot placeHead (loop .nodes) (loop .dots) (args .rects .now) (loop .head) (loop .node) (loop .node-data) (loop .rest) now (loop-test .taken)))
           (split-leaf .ensures .0) (c .before .route .ensures ∙ ap (routeCell (loop .node-data .cell)) (sym e)) (c .child .ensures),
     )
 
@@ -116,7 +117,7 @@ same-length-2 c = c .before .loop .inv .1
 returns : tie.Need-returns Inv-loop μ-loop
 returns c =
     let at-start : tie.Start Inv-loop μ-loop = search in
-    (c .before .loop .node-data, λ x dot placeHead e g. subst (λ (k : ℕ). Going x dot placeHead (c .before .loop .nodes) (c .before .loop .dots) (at-start .args .rects .now) (c .before .loop .head) (c .before .loop .node) (c .before .loop .node-data) k) (omega (arith, c .loop-test .left)) (c .before .loop .inv .2 x dot placeHead e g))
+    (c .before .loop .node-data, λ x dot placeHead e g. subst (λ (k : ℕ). Inserting x dot placeHead (c .before .loop .nodes) (c .before .loop .dots) (at-start .args .rects .now) (c .before .loop .head) (c .before .loop .node) (c .before .loop .node-data) k) (omega (arith, c .loop-test .left)) (c .before .loop .inv .2 x dot placeHead e g))
 
 pub split-down-spec : {M : Type 1} → statement M
 split-down-spec =

@@ -1,5 +1,5 @@
 -- The group is taken, then the chain dealt.
-use Rattle.tree_insert.specs.Splitting.{split-deals, split-done}
+use Rattle.tree_insert.specs.Laws.LeafSplit.{split-deals, split-done}
 use borrow.Author.Needs.{needs}
 use Rattle.tree_insert.proofs.split.split_leaf.Statement.{statement}
 use Rattle.tree_insert.proofs.split.split_leaf.Tie as tie

@@ -1,45 +1,31 @@
--- The deal of a chain to the children of a group: what its loop asks, and what it leaves.
---     Dealable, Dealt      what the loop asks; the memory after it is that of `dealWords`
+-- The deal of a chain to the children of a group.
 --     linked-read          a place put at the head of a leaf's chain
---     deal-turn    one turn of the loop; deal-over: its end
-use mathlib.Core.Path.{_≡_, refl, ap, sym, _∙_, subst}
+--     deal-turn, deal-on   one turn of the loop
+--     deal-over    its end
+use mathlib.Core.Path.{_≡_, ap, sym, _∙_, subst, refl}
 use mathlib.Core.List.{List, [], _∷_}
 use Prim.Native.Nat.{ℕ, _+_, _-_, _≤_, _<_}
 use native.Mathlib.Omega.{arith}
 use lib.IntN.{ℤ}
-use Rattle.geometry.specs.declared.aabb.AABB.{AABB}
-use Rattle.geometry.specs.declared.centered_aabb.CenteredAABB.{CenteredAABB}
 use Rattle.geometry.specs.declared.node_data.NodeData.{NodeData}
 use Rattle.geometry.specs.Cells.{routeCell, route}
 use Rattle.geometry.specs.Laws.Geometry.{route-child}
-use Rattle.model.specs.declared.Dot.{Dot}
+use Rattle.geometry.specs.declared.aabb.AABB.{AABB}
+use Rattle.geometry.specs.declared.centered_aabb.CenteredAABB.{CenteredAABB}
 use Rattle.model.specs.Sums.{indicator, sumOver}
 use Rattle.model.specs.Laws.Sums.{indicator-same, changed-other, changed-all}
-use Rattle.model.specs.Trees.{Placed, childNode, atPlace}
-use Rattle.model.specs.Insert.{routeDot}
+use Rattle.model.specs.Trees.{Placed, atPlace, childNode}
 use Rattle.model.specs.Memory.{Mem, read, firstAt, countAt, nextAt, rectAt}
+use Rattle.model.specs.declared.Dot.{Dot}
+use Rattle.model.specs.Insert.{routeDot}
 use Rattle.memory.specs.declared.node.Node.{Node}
-use Rattle.memory.specs.Rows.{HasNode, HasPlace, HasRect, setNodeAt, setNextAt}
-use Rattle.memory.specs.Laws.Stores.{node-length, next-length, next-set, id-next, count-set}
+use Rattle.memory.specs.Rows.{HasNode, HasPlace, setNodeAt, setNextAt, HasRect}
+use Rattle.memory.specs.Laws.Stores.{next-length, next-set, id-next, node-length, count-set}
 use Rattle.tree.specs.Stores.{setNext}
-use Rattle.tree.specs.Chains.{Standing}
+use Rattle.tree.specs.Chains.{ChainStands}
+use Rattle.tree.specs.Laws.Readings.{setNode, node-stored, next-stored}
 use Rattle.tree.specs.Splits.{dealWords}
-use Rattle.tree.specs.Readings.{setNode, node-stored, next-stored}
-
-pub record Dealable (nodes dots : List ℕ) (rects : List ℤ) (first head count : ℕ) : Type 0 where
-  pub group : ℕ
-  pub starts : first ≡ childNode group 0
-  pub chain : List Placed
-  pub standing : Standing dots rects head count chain
-  pub once : (k : ℕ) → sumOver (atPlace k) chain ≤ 1
-  pub nodesIn : HasNode nodes (first + 4)
-  pub small : (j : ℕ) → j < 5 → countAt nodes (first + j) + count ≤ 65536
-
--- by the node data of a node with this cell
-abbrev pub Dealt : List ℕ → List ℕ → List ℤ → CenteredAABB → ℕ → ℕ → ℕ → List ℕ → List ℕ → Type 0
-Dealt nodes dots rects cell first head count nodes′ dots′ =
-    (n : NodeData) → n .cell ≡ cell → (s : Dealable nodes dots rects first head count)
-    → read nodes′ dots′ rects ≡ dealWords n (read nodes dots rects) (s .group) (s .chain)
+use Rattle.tree_insert.specs.Deal.{Dealable}
 
 -- a place is put at the head of a leaf's chain
 abbrev pub linkWords : Mem → ℕ → ℕ → Mem
@@ -53,10 +39,10 @@ linked-read nodes dots rects a p hn hp =
     ∙ ap (λ (m : Mem). setNode m a v) (next-stored nodes dots rects p (firstAt nodes a) hp)
 
 -- a store of a next that is none of the chain's
-standing-frame : (dots : List ℕ) (rects : List ℤ) (p v h n : ℕ) (ds : List Placed) → HasPlace dots p → sumOver (atPlace p) ds ≡ 0 → Standing dots rects h n ds
-    → Standing (setNextAt dots p v) rects h n ds
-standing-frame dots rects p v h n [] hp z s = s
-standing-frame dots rects p v h n (d ∷ ds) hp z s =
+stands-frame : (dots : List ℕ) (rects : List ℤ) (p v h n : ℕ) (ds : List Placed) → HasPlace dots p → sumOver (atPlace p) ds ≡ 0 → ChainStands dots rects h n ds
+    → ChainStands (setNextAt dots p v) rects h n ds
+stands-frame dots rects p v h n [] hp z s = s
+stands-frame dots rects p v h n (d ∷ ds) hp z s =
     let ne : ¬ (h ≡ p) = λ e. omega (arith, ap (λ (y : ℕ). indicator p y) (sym (s .0) ∙ e), indicator-same p) in
     let other : nextAt (setNextAt dots p v) h ≡ nextAt dots h = ap (λ (f : ℕ → ℕ). f h) (next-set dots p v hp) ∙ changed-other (nextAt dots) p v h ne in
     let ids = ap (λ (f : ℕ → ℕ). f h) (id-next dots p v) in (
@@ -65,7 +51,7 @@ standing-frame dots rects p v h n (d ∷ ds) hp z s =
       s .2,
       (λ i. record { id = ids i; rect = rectAt rects h }) ∙ s .3,
       s .4,
-      subst (λ (y : ℕ). Standing (setNextAt dots p v) rects y (n - 1) ds) (sym other) (standing-frame dots rects p v (nextAt dots h) (n - 1) ds hp (omega arith) (s .5)),
+      subst (λ (y : ℕ). ChainStands (setNextAt dots p v) rects y (n - 1) ds) (sym other) (stands-frame dots rects p v (nextAt dots h) (n - 1) ds hp (omega arith) (s .5)),
     )
 
 -- ---- a turn
@@ -80,9 +66,9 @@ module _ (nodes dots : List ℕ) (rects : List ℤ) (n : NodeData) (first at lef
     pub count : countAt nodes (first + child) + left ≤ 65536
 
   pub deal-asks : (s : Dealable nodes dots rects first at left) → Turn (routeCell (n .cell) (rectAt rects at))
-  deal-asks s = go (s .chain) (s .standing)
+  deal-asks s = go (s .chain) (s .stands)
     where
-      go : (ds : List Placed) → Standing dots rects at left ds → Turn (routeCell (n .cell) (rectAt rects at))
+      go : (ds : List Placed) → ChainStands dots rects at left ds → Turn (routeCell (n .cell) (rectAt rects at))
       go [] g = absurd (omega arith)
       go (d ∷ ds) g =
           let i = route-child n (rectAt rects at) in
@@ -98,9 +84,9 @@ module _ (nodes dots : List ℕ) (rects : List ℤ) (n : NodeData) (first at lef
   pub deal-turn : (s : Dealable nodes dots rects first at left) → let child = routeCell (n .cell) (rectAt rects at) in
       (r : Dealable (nodes₁ child) (dots₁ child) rects first (nextAt dots at) (left - 1))
       × (dealWords n (read (nodes₁ child) (dots₁ child) rects) (r .group) (r .chain) ≡ dealWords n (read nodes dots rects) (s .group) (s .chain))
-  deal-turn s = go (s .chain) (s .standing) (s .once)
+  deal-turn s = go (s .chain) (s .stands) (s .once)
     where
-      go : (ds : List Placed) → Standing dots rects at left ds → ((k : ℕ) → sumOver (atPlace k) ds ≤ 1) → let child = routeCell (n .cell) (rectAt rects at) in
+      go : (ds : List Placed) → ChainStands dots rects at left ds → ((k : ℕ) → sumOver (atPlace k) ds ≤ 1) → let child = routeCell (n .cell) (rectAt rects at) in
           (r : Dealable (nodes₁ child) (dots₁ child) rects first (nextAt dots at) (left - 1))
           × (dealWords n (read (nodes₁ child) (dots₁ child) rects) (r .group) (r .chain) ≡ dealWords n (read nodes dots rects) (s .group) ds)
       go [] g o = absurd (omega arith)
@@ -119,7 +105,7 @@ module _ (nodes dots : List ℕ) (rects : List ℤ) (n : NodeData) (first at lef
             group = s .group;
             starts = s .starts;
             chain = ds;
-            standing = standing-frame dots rects at (firstAt nodes b) (nextAt dots at) (left - 1) ds (g .1) free (g .5);
+            stands = stands-frame dots rects at (firstAt nodes b) (nextAt dots at) (left - 1) ds (g .1) free (g .5);
             once = λ k. omega (arith, o k);
             nodesIn = omega (arith, s .nodesIn, node-length nodes b v);
             small = λ j l.
@@ -159,8 +145,8 @@ deal-on nodes₀ dots₀ rects cell first at₀ left₀ nodes dots at left going
 
 pub deal-over : (nodes dots : List ℕ) (rects : List ℤ) (n : NodeData) (first at : ℕ) (left : ℕ) → left ≡ 0 → (s : Dealable nodes dots rects first at left)
     → dealWords n (read nodes dots rects) (s .group) (s .chain) ≡ read nodes dots rects
-deal-over nodes dots rects n first at left e s = go (s .chain) (s .standing)
+deal-over nodes dots rects n first at left e s = go (s .chain) (s .stands)
   where
-    go : (ds : List Placed) → Standing dots rects at left ds → dealWords n (read nodes dots rects) (s .group) ds ≡ read nodes dots rects
+    go : (ds : List Placed) → ChainStands dots rects at left ds → dealWords n (read nodes dots rects) (s .group) ds ≡ read nodes dots rects
     go [] g = refl
     go (d ∷ ds) g = absurd (omega (arith, g .4))

@@ -1,27 +1,26 @@
--- A dot taken out of its chain in the words, its place freed; the cleanup of the whole memory.
+-- A dot taken out of its chain in the words, its place freed.
 --     leaf-holds   what is owed where one leaf and the free places change
 --     popWords, pop-holds; dropWords, drop-holds   the head of the chain goes; the dot behind another goes
---     clean-holds  the cleanup
-use mathlib.Core.Path.{_≡_, refl, ap, sym, _∙_, subst}
+use mathlib.Core.Path.{_≡_, ap, sym, refl, _∙_, subst}
 use mathlib.Core.Logic.{_≢_}
-use mathlib.Core.List.{List, [], _∷_, _++_, map}
-use Prim.Native.Nat.{ℕ, _+_, _-_, _/_, _%_, _≤_, _<_}
-use native.Mathlib.Decide.{ℕ-discrete}
+use mathlib.Core.List.{List, map, _∷_, _++_}
+use Prim.Native.Nat.{ℕ, _+_, _≤_, _-_}
 use native.Mathlib.Omega.{arith}
 use lib.ListN.{length-append}
 use Rattle.model.specs.Sums.{indicator, sumOver, changed}
-use Rattle.model.specs.Laws.Sums.{indicator-same, indicator-other, indicator-le, sumOver-append, sumBelow-zero, changed-same, changed-other, byDec}
-use Rattle.model.specs.Dots.{zeroDot}
-use Rattle.model.specs.Trees.{Placed, Tree, leaf, branch, childNode, sumDots, sumGroups, atPlace, groupCount}
+use Rattle.model.specs.Laws.Sums.{indicator-same, sumOver-append, changed-same, changed-other}
+use Rattle.model.specs.Trees.{Placed, Tree, leaf, childNode, sumDots, sumGroups, atPlace, groupCount}
 use Rattle.model.specs.Layout.{none, blank}
 use Rattle.model.specs.Memory.{Mem, Chained, Represents}
 use Rattle.model.specs.Laws.Shapes.{below-le}
-use Rattle.tree.specs.Frames.{sumNodes, nodeCount, SamePlace, SameNode, chain-frame, chain-pop, chain-drop}
-use Rattle.tree.specs.Paths.{Children, sub, nodeAt, put, sumDots-put, sumGroups-put, sumDots-sub, sumNodes-sub, tree-sub, tree-put, nodes-groups}
-use Rattle.tree.specs.Stores.{setFirst, setCount, setDot, setNext, free-frame, Stored, nodes-once, node-not-free, node-zero}
-use Rattle.model.specs.Cleanup.{cleanTree, freedBy}
-use Rattle.model.specs.Laws.Cleanup.{clean-sum, clean-groups}
-use Rattle.tree.specs.Collapses.{cleanWords, overGroup, tree-cleaned}
+use Rattle.model.specs.Dots.{zeroDot}
+use Rattle.tree.specs.Trees.{sumNodes, nodeCount}
+use Rattle.tree.specs.Laws.Frames.{SamePlace, SameNode, free-frame, chain-frame, chain-pop, chain-drop}
+use Rattle.tree.specs.Laws.Paths.{Children, sumDots-put, sumGroups-put, sumNodes-sub, tree-put, sumDots-sub, tree-sub}
+use Rattle.tree.specs.Paths.{sub, nodeAt, put}
+use Rattle.tree.specs.Stored.{Stored}
+use Rattle.tree.specs.Laws.Stored.{nodes-once, node-not-free}
+use Rattle.tree.specs.Stores.{setFirst, setCount, setDot, setNext}
 
 -- ---- a leaf changes, with the free places: what is owed
 
@@ -118,37 +117,3 @@ drop-holds G N m groupHead placeHead t free spare path xs q d ys children e H =
       subst (λ (y : ℕ). Chained w y (map blank spare) none) (sym (changed-same (changed (m .next) o (m .next p)) p placeHead)) (chain-frame m w placeHead (map blank spare) none (λ k h. off k (omega arith)) (H .places)),
     )
     (λ k. omega (arith, sum k, sumOver-append (atPlace k) xs (q ∷ ys)))
-
--- ---- the cleanup of the whole
-
-free-nodes : (q r : ℕ) (free : List ℕ) → r < 5 → sumOver (overGroup (indicator (childNode q r))) free ≡ sumOver (indicator q) free
-free-nodes q r [] b = refl
-free-nodes q r (g ∷ gs) b = omega (arith, free-nodes q r gs b, nodes-groups q r 0 (branch g (λ i. leaf [])) b, indicator-other (childNode q r) 0 (λ x. omega arith))
-
-free-zero : (free : List ℕ) → sumOver (overGroup (indicator 0)) free ≡ 0
-free-zero [] = refl
-free-zero (g ∷ gs) = omega (arith, free-zero gs, sumBelow-zero 5 (λ i. indicator 0 (childNode g i)) (λ i b. indicator-other 0 (childNode g i) (λ e. omega arith)))
-
-pub nodes-all : (t : Tree) (free : List ℕ) → ((k : ℕ) → groupCount k t + sumOver (indicator k) free ≤ 1) → (k : ℕ) → nodeCount k 0 t + sumOver (overGroup (indicator k)) free ≤ 1
-nodes-all t free o k =
-    byDec (ℕ-discrete k 0)
-    (λ e. subst (λ (y : ℕ). nodeCount y 0 t + sumOver (overGroup (indicator y)) free ≤ 1) (sym e) (omega (arith, node-zero 0 t, indicator-le 0 0, free-zero free)))
-    (λ ne.
-    let q : ℕ = (k - 1) / 5 in
-    let r : ℕ = (k - 1) % 5 in
-    let e : childNode q r ≡ k = omega arith in
-    let b : r < 5 = omega arith in
-    subst (λ (y : ℕ). nodeCount y 0 t + sumOver (overGroup (indicator y)) free ≤ 1) e
-    (omega (arith, nodes-groups q r 0 t b, free-nodes q r free b, o q, indicator-other (childNode q r) 0 (λ x. omega arith))))
-
-pub clean-holds : (G N : ℕ) (m : Mem) (groupHead placeHead : ℕ) (t : Tree) (free spare : List ℕ) → Stored G N m groupHead placeHead t free spare
-    → let w = cleanWords t 0 (record { mem = m; head = groupHead }) in Stored G N (w .mem) (w .head) placeHead (cleanTree t) (freedBy t free) spare
-clean-holds G N m groupHead placeHead t free spare H =
-    let g = tree-cleaned t 0 (record { mem = m; head = groupHead }) free (nodes-all t free (λ k. omega (arith, H .groupsOnce k, below-le k G)), H .tree, H .groups) in
-    record {
-      tree = g .0;
-      groups = g .1;
-      places = chain-frame m _ placeHead (map blank spare) none (λ k h. g .3 k) (H .places);
-      groupsOnce = λ k. clean-groups (indicator k) t free ∙ H .groupsOnce k;
-      placesOnce = λ k. omega (arith, clean-sum (atPlace k) t, H .placesOnce k);
-    }

@@ -1,113 +1,39 @@
--- The splits that an insert needs, counted without a store: at each level the dots of the leaf's chain that lie within the bounds of the node reached.
---     deal-pick            what the deal gives a child, as a sum over the dealt chain
---     within, Chosen       the dots within bounds; a chain whose every sum is theirs
---     Countable, Needed    what the count asks and tells
---     need-start, need-on, need-done       the loop's invariant: its begin, a turn, its end
-use mathlib.Core.Path.{_≡_, refl, ap, sym, _∙_, subst}
-use mathlib.Core.Logic.{_⊎_, inl, inr, ⊎-elim}
+-- The splits that an insert needs: at each level the dots of the leaf's chain that lie within the bounds of the node reached.
+--     tally-on, tally-over         the count of a chain: a turn of its loop, its end
+--     need-start, need-on, need-done       the count of the splits: the loop's invariant, a turn, its end
+use mathlib.Core.Path.{_≡_, ap, sym, subst, refl, _∙_}
 use mathlib.Core.List.{List, [], _∷_}
-use mathlib.Core.Bool.{Bool, true, false, not, cond, _&&_, _||_}
-use Prim.Native.Nat.{ℕ, zero, suc, _+_, _-_, _≤_, _<_}
-use native.Mathlib.Decide.{ℕ-discrete}
+use mathlib.Core.Bool.{cond, true, false, not, _&&_}
+use mathlib.Core.Logic.{_⊎_, inl, inr, ⊎-elim}
+use Prim.Native.Nat.{ℕ, _+_, _-_, _≤_, zero, suc, _<_}
 use native.Mathlib.Omega.{arith}
+use native.Mathlib.Decide.{ℕ-discrete}
 use lib.IntN.{ℤ}
 use lib.ListN.{length}
 use lib.Dec.{eqb, leb}
-use borrow.Author.Tests.{eq-eqb, ne-eqb}
-use Rattle.arithmetic.specs.Tests.{byBool, true-false}
+use borrow.Author.Tests.{eq-eqb}
+use Rattle.arithmetic.specs.Tests.{true-false}
 use Rattle.arithmetic.specs.Linear.{and-t}
-use Rattle.geometry.specs.declared.aabb.AABB.{AABB}
 use Rattle.geometry.specs.declared.bounds.Bounds.{Bounds}
+use Rattle.geometry.specs.Bounds.{inBounds, allBounds, boundsBelow}
+use Rattle.geometry.specs.declared.aabb.AABB.{AABB}
 use Rattle.geometry.specs.declared.settings.Settings.{Settings}
 use Rattle.geometry.specs.declared.node_data.NodeData.{NodeData}
-use Rattle.geometry.specs.Rectangles.{inverted, farOut}
-use Rattle.geometry.specs.Settings.{inRange, acceptable, rootOf, contains}
-use Rattle.geometry.specs.Cells.{InRange, childData, route, mayDivide, maySplit}
-use Rattle.geometry.specs.Bounds.{allBounds, boundsBelow, inBounds}
-use Rattle.geometry.specs.Laws.Bounds.{bounds-below, bounds-all}
+use Rattle.geometry.specs.Cells.{childData, mayDivide, route, maySplit}
+use Rattle.geometry.specs.Settings.{inRange}
 use Rattle.geometry.specs.Laws.Geometry.{route-child, levelsLeft, levels-fall, may-splits}
 use Rattle.geometry.specs.Laws.Ranges.{accepted}
-use Rattle.model.specs.Sums.{sumOver, changed}
-use Rattle.model.specs.Laws.Sums.{sumOver-one, changed-all, byDec}
-use Rattle.model.specs.Lists.{All}
-use Rattle.model.specs.Dots.{acceptableDot}
+use Rattle.model.specs.Sums.{sumOver}
 use Rattle.model.specs.Trees.{Placed, leaf}
-use Rattle.model.specs.Insert.{routeDot, deal, mustSplit}
-use Rattle.model.specs.Laws.Insert.{splitCount, levels-suffice}
 use Rattle.model.specs.declared.Dot.{Dot}
 use Rattle.model.specs.Memory.{nextAt, rectAt}
+use Rattle.model.specs.Insert.{mustSplit, routeDot, deal}
+use Rattle.model.specs.Laws.Insert.{splitCount, levels-suffice}
+use Rattle.model.specs.Laws.Sums.{sumOver-one, byDec}
 use Rattle.memory.specs.declared.node.Node.{Node}
-use Rattle.tree.specs.Chains.{Standing}
-
--- ---- the dots that go to a child
-
-deal-pick : (n : NodeData) (h : Placed → ℕ) (acc : ℕ → List Placed) (ds : List Placed) (i : ℕ)
-    → sumOver h (deal n acc ds i) ≡ sumOver (λ d. cond (eqb (routeDot n d) i) (h d) 0) ds + sumOver h (acc i)
-deal-pick n h acc [] i = omega arith
-deal-pick n h acc (d ∷ ds) i =
-    let j = routeDot n d in
-    let here : sumOver h (changed acc j (d ∷ acc j) i) ≡ cond (eqb j i) (h d) 0 + sumOver h (acc i) =
-    changed-all (λ (k : ℕ) (l : List Placed). sumOver h l ≡ cond (eqb j k) (h d) 0 + sumOver h (acc k)) acc j (d ∷ acc j) i
-    (λ e. rw (eq-eqb j i (sym e)) (ap (λ (k : ℕ). h d + sumOver h (acc k)) (sym e)))
-    (λ ne. rw (ne-eqb j i (λ e. ne (sym e))) (omega arith)) in
-    omega (arith, deal-pick n h (changed acc j (d ∷ acc j)) ds i, here)
-
--- ---- the dots within bounds
-
-abbrev pub within : Bounds → Placed → ℕ
-within b d = cond (inBounds b (d .dot .rect)) 1 0
-
-pub one-most : (b : Bool) → cond b 1 0 ≤ 1
-one-most true = omega arith
-one-most false = omega arith
-
--- every sum over the chain is that over the dots of ds within the bounds
-abbrev pub Chosen : Bounds → List Placed → List Placed → Type 0
-Chosen b ds chain = (h : Placed → ℕ) → sumOver h chain ≡ sumOver (λ d. cond (inBounds b (d .dot .rect)) (h d) 0) ds
-
-upright : (s : Settings) (r : AABB) → acceptable s r ≡ true → (inverted r ≡ false) × (farOut r ≡ false)
-unfolding acceptable
-upright s r e =
-    let a = and-t (not (inverted r || farOut r)) (contains (rootOf s) r) e .0 in
-    byBool (inverted r)
-    (λ i. true-false (sym (rw i at a)))
-    (λ i. byBool (farOut r) (λ f. true-false (sym (rw (i, f) at a))) (λ f. (i, f)))
-
-all-chosen : (s : Settings) (ds : List Placed) → All (λ d. acceptableDot s (d .dot) ≡ true) ds → Chosen allBounds ds ds
-unfolding acceptableDot
-all-chosen s [] a h = refl
-all-chosen s (d ∷ ds) a h = rw (bounds-all (d .dot .rect) (upright s (d .dot .rect) (a .0) .1)) (ap (λ (k : ℕ). h d + k) (all-chosen s ds (a .1) h))
-
--- the dots within a child's bounds are those within the parent's that go to it
-child-chosen : (s : Settings) (b : Bounds) (n : NodeData) (i : ℕ) → 1 ≤ i → i < 5 → (h : Placed → ℕ) (ds : List Placed) → All (λ d. acceptableDot s (d .dot) ≡ true) ds
-    → sumOver (λ d. cond (inBounds b (d .dot .rect)) (cond (eqb (routeDot n d) i) (h d) 0) 0) ds ≡ sumOver (λ d. cond (inBounds (boundsBelow b (n .cell) i) (d .dot .rect)) (h d) 0) ds
-unfolding acceptableDot
-child-chosen s b n i one five h [] a = refl
-child-chosen s b n i one five h (d ∷ ds) a =
-    let r = d .dot .rect in
-    let both : inBounds (boundsBelow b (n .cell) i) r ≡ inBounds b r && eqb (routeDot n d) i = bounds-below b (n .cell) i one five r (upright s r (a .0) .0) in
-    let here : cond (inBounds b r) (cond (eqb (routeDot n d) i) (h d) 0) 0 ≡ cond (inBounds (boundsBelow b (n .cell) i) r) (h d) 0 =
-    rw both (byBool (inBounds b r) (λ e. rw e refl) (λ e. rw e refl)) in
-    omega (arith, here, child-chosen s b n i one five h ds (a .1))
-
--- ---- what the count asks and tells
-
-pub record SomeStanding (dots : List ℕ) (rects : List ℤ) (head count : ℕ) : Type 0 where
-  pub chain : List Placed
-  pub standing : Standing dots rects head count chain
-
-pub record Countable (s : Settings) (dots : List ℕ) (rects : List ℤ) (node : Node) (n : NodeData) : Type 0 where
-  pub settings : inRange s ≡ true
-  pub range : InRange (n .cell)
-  pub chain : List Placed
-  pub standing : Standing dots rects (node .first) (node .count) chain
-  pub dotsFit : All (λ d. acceptableDot s (d .dot) ≡ true) chain
-  pub counted : node .count ≡ length chain
-
--- the splits of every leaf with that chain
-abbrev pub Needed : Settings → List ℕ → List ℤ → Node → NodeData → AABB → ℕ → Type 0
-Needed s dots rects node n r splits =
-    (k : Countable s dots rects node n) (levels : ℕ) → levelsLeft s n ≤ levels → splits ≡ splitCount s levels n r (leaf (k .chain))
+use Rattle.tree.specs.Chains.{ChainStands}
+use Rattle.tree_insert.specs.SplitsNeeded.{within, Countable}
+use Rattle.tree_insert.specs.Laws.Bounds.{deal-pick, Chosen, all-chosen, child-chosen}
 
 -- ---- the count of a chain
 
@@ -115,23 +41,23 @@ module _ (dots : List ℕ) (rects : List ℤ) (b : Bounds) where
   -- the count that began at h₀ is at h, with n places left
   abbrev pub Tallying : ℕ → ℕ → ℕ → ℕ → ℕ → Type 0
   Tallying h₀ n₀ h n count =
-      (chain : List Placed) → Standing dots rects h₀ n₀ chain → (ds : List Placed) × Standing dots rects h n ds × (sumOver (within b) chain ≡ count + sumOver (within b) ds)
+      (chain : List Placed) → ChainStands dots rects h₀ n₀ chain → (ds : List Placed) × ChainStands dots rects h n ds × (sumOver (within b) chain ≡ count + sumOver (within b) ds)
 
   pub tally-on : (h₀ n₀ h n count h′ count′ : ℕ) → Tallying h₀ n₀ h n count → 1 ≤ n → h′ ≡ nextAt dots h → count′ ≡ count + cond (inBounds b (rectAt rects h)) 1 0
       → Tallying h₀ n₀ h′ (n - 1) count′
   tally-on h₀ n₀ h n count h′ count′ t some eh ec chain s = go (t chain s .0) (t chain s .1) (t chain s .2)
     where
-      go : (ds : List Placed) → Standing dots rects h n ds → sumOver (within b) chain ≡ count + sumOver (within b) ds
-          → (ds : List Placed) × Standing dots rects h′ (n - 1) ds × (sumOver (within b) chain ≡ count′ + sumOver (within b) ds)
+      go : (ds : List Placed) → ChainStands dots rects h n ds → sumOver (within b) chain ≡ count + sumOver (within b) ds
+          → (ds : List Placed) × ChainStands dots rects h′ (n - 1) ds × (sumOver (within b) chain ≡ count′ + sumOver (within b) ds)
       go [] g q = absurd (omega arith)
       go (d ∷ ds) g q =
           let here : cond (inBounds b (rectAt rects h)) 1 0 ≡ within b d = ap (λ (y : Dot). cond (inBounds b (y .rect)) 1 0) (g .3) in
-          (ds, subst (λ (y : ℕ). Standing dots rects y (n - 1) ds) (sym eh) (g .5), omega (arith, here))
+          (ds, subst (λ (y : ℕ). ChainStands dots rects y (n - 1) ds) (sym eh) (g .5), omega (arith, here))
 
-  pub tally-over : (h₀ n₀ h n count : ℕ) → Tallying h₀ n₀ h n count → n ≡ 0 → (chain : List Placed) → Standing dots rects h₀ n₀ chain → count ≡ sumOver (within b) chain
+  pub tally-over : (h₀ n₀ h n count : ℕ) → Tallying h₀ n₀ h n count → n ≡ 0 → (chain : List Placed) → ChainStands dots rects h₀ n₀ chain → count ≡ sumOver (within b) chain
   tally-over h₀ n₀ h n count t e chain s = go (t chain s .0) (t chain s .1) (t chain s .2)
     where
-      go : (ds : List Placed) → Standing dots rects h n ds → sumOver (within b) chain ≡ count + sumOver (within b) ds → count ≡ sumOver (within b) chain
+      go : (ds : List Placed) → ChainStands dots rects h n ds → sumOver (within b) chain ≡ count + sumOver (within b) ds → count ≡ sumOver (within b) chain
       go [] g q = omega arith
       go (d ∷ ds) g q = absurd (omega (arith, g .4))
 
@@ -185,7 +111,7 @@ module _ (s : Settings) (dots : List ℕ) (rects : List ℤ) (node : Node) (n₀
       need-above = let m = may-splits s n may in (m .noChild0, omega (arith, m .above, accepted s accept .depth))
 
       pub need-on : (child : ℕ) (n′ : NodeData) (b′ : Bounds) (count′ : ℕ) → child ≡ route n r → n′ ≡ childData n child → b′ ≡ boundsBelow b (n .cell) child
-          → ((chain : List Placed) → Standing dots rects (node .first) (node .count) chain → count′ ≡ sumOver (within b′) chain) → CountedAll n′ b′ count′ (splits + 1)
+          → ((chain : List Placed) → ChainStands dots rects (node .first) (node .count) chain → count′ ≡ sumOver (within b′) chain) → CountedAll n′ b′ count′ (splits + 1)
       need-on child n′ b′ count′ ec en eb count-is k levels₀ high = go (counted k levels₀ high .levels) (counted k levels₀ high .high) (counted k levels₀ high .same) (counted k levels₀ high .told)
         where
           chain : List Placed
@@ -223,7 +149,7 @@ module _ (s : Settings) (dots : List ℕ) (rects : List ℤ) (node : Node) (n₀
                     (λ z. inl (subst (λ (y : NodeData). y .«is_child_0» ≡ true) known (child-0 n i z)))
                     (λ ne.
                     let some : 1 ≤ i = omega arith in
-                    inr (count-is (k .chain) (k .standing) ∙ sym (chosen some (λ d. 1)) ∙ sumOver-one chain′, chosen some));
+                    inr (count-is (k .chain) (k .stands) ∙ sym (chosen some (λ d. 1)) ∙ sumOver-one chain′, chosen some));
               }
 
     pub need-done : maySplit s n && leb (s .«leaf_limit») count ≡ false → (k : Countable s dots rects node n₀) (levels₀ : ℕ) → levelsLeft s n₀ ≤ levels₀

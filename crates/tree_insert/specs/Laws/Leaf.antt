@@ -3,47 +3,49 @@
 --     countable    the splits can be counted there
 --     needed-is    what is counted is the splits needed
 --     listed-free, enough-is       the free groups can be walked along, and are told to be enough
---     go-start     the insert is on its way
+--     inserting-start     the insert is on its way
 use mathlib.Core.Path.{_≡_, refl, ap, sym, _∙_, subst}
 use mathlib.Core.List.{List}
 use mathlib.Core.Bool.{Bool}
 use Prim.Native.Nat.{ℕ, zero, suc, _≤_}
-use native.Mathlib.Decide.{decLt}
 use native.Mathlib.Omega.{arith}
+use native.Mathlib.Decide.{decLt}
 use lib.IntN.{ℤ}
 use lib.ListN.{length}
 use lib.Dec.{leb}
 use Rattle.geometry.specs.declared.aabb.AABB.{AABB}
 use Rattle.geometry.specs.declared.settings.Settings.{Settings}
 use Rattle.geometry.specs.declared.node_data.NodeData.{NodeData}
-use Rattle.geometry.specs.Settings.{D}
-use Rattle.geometry.specs.Cells.{InRange, rootData, childData, route}
+use Rattle.geometry.specs.Cells.{InRange, childData, route, rootData}
 use Rattle.geometry.specs.Laws.Geometry.{route-child, levelsLeft, levels-fall, levels-root}
-use Rattle.geometry.specs.Laws.Ranges.{accepted, root-range, child-range}
+use Rattle.geometry.specs.Laws.Ranges.{child-range, accepted, root-range}
+use Rattle.geometry.specs.Settings.{D}
+use Rattle.model.specs.Trees.{Tree, leaf, branch, childNode, Placed, Shallow}
+use Rattle.model.specs.Shapes.{WellFormed, Shape, root, placedIn, splitsNeeded}
+use Rattle.model.specs.Sums.{changed}
+use Rattle.model.specs.Insert.{Grown, insertAt}
+use Rattle.model.specs.Laws.Insert.{splitCount}
 use Rattle.model.specs.declared.State.{State}
 use Rattle.model.specs.declared.Dot.{Dot}
-use Rattle.model.specs.Sums.{changed}
 use Rattle.model.specs.Laws.Sums.{sumOver-one, byDec}
-use Rattle.model.specs.Trees.{Placed, Tree, leaf, branch, childNode, Shallow}
-use Rattle.model.specs.Insert.{Grown, insertAt}
-use Rattle.model.specs.Shapes.{Shape, WellFormed, root, placedIn, splitsNeeded}
 use Rattle.model.specs.Layout.{World, world, Holds}
 use Rattle.model.specs.Memory.{memory}
-use Rattle.model.specs.Laws.Insert.{splitCount}
 use Rattle.model.specs.Laws.Splitting.{needed-count}
 use Rattle.model.specs.Laws.Shapes.{below-no, live-and-free, valid-height}
 use Rattle.model.specs.Laws.Layout.{holds-settings}
 use Rattle.model.specs.Laws.Memory.{holds-represented}
 use Rattle.memory.specs.declared.node.Node.{Node}
 use Rattle.memory.specs.Nodes.{nodeAt}
-use Rattle.tree.specs.declared.find.Leaf.{Leaf}
+use Rattle.tree.specs.Routes.{leafFor, LeadsTo}
+use Rattle.tree.specs.Laws.Routes.{chainFor, pathTo, path-reach, path-sub, path-node}
 use Rattle.tree.specs.Paths.{put}
-use Rattle.tree.specs.Joins.{holds-stored}
-use Rattle.tree.specs.Routes.{leafFor, chainFor, pathTo, path-reach, path-sub, path-node, LeadsTo}
-use Rattle.tree.specs.Leaves.{here-sum, here-count, here-standing, leads-leaf}
-use Rattle.tree_insert.specs.FreeLists.{FreeIn, SomeFree, groups-free}
-use Rattle.tree_insert.specs.Counting.{Countable, Needed}
-use Rattle.tree_insert.specs.Growing.{ended, Going}
+use Rattle.tree.specs.declared.find.Leaf.{Leaf}
+use Rattle.tree.specs.Laws.Stored.{holds-stored}
+use Rattle.tree.specs.Laws.Leaves.{here-sum, here-count, here-stands, leads-leaf}
+use Rattle.tree_insert.specs.FreeGroups.{FreeIn, SomeFree}
+use Rattle.tree_insert.specs.Laws.FreeGroups.{groups-free}
+use Rattle.tree_insert.specs.SplitsNeeded.{Countable, Needed}
+use Rattle.tree_insert.specs.SplitDown.{ended, Inserting}
 
 -- ---- the leaf on the tree
 
@@ -97,7 +99,7 @@ module _ (s : State) (nodes dots : List ℕ) (rects : List ℤ) (marks : List �
   chain₀ = chainFor (dot .rect) (root x) (x .tree)
 
   at-leaf : l ≡ l₀
-  at-leaf = leads-leaf w₀ x h (dot .rect) l leads
+  at-leaf = leads-leaf h (dot .rect) leads
 
   in-range : InRange (l₀ .«node_data» .cell)
   unfolding rootData
@@ -109,7 +111,7 @@ module _ (s : State) (nodes dots : List ℕ) (rects : List ℤ) (marks : List �
       (valid-height x (h .valid)) (h .valid .wellFormed) (levels-root (x .settings))
 
   short : length chain₀ ≤ 65536
-  short = omega (arith, here-sum w₀ x h (dot .rect) (λ d. 1), sumOver-one chain₀, live-and-free x (h .valid), h .valid .placesFit)
+  short = omega (arith, here-sum h (dot .rect) (λ d. 1), sumOver-one chain₀, live-and-free x (h .valid), h .valid .placesFit)
 
   -- the count of its splits
   module _ (node : Node) (words : node ≡ nodeAt nodes (l .node)) where
@@ -119,9 +121,9 @@ module _ (s : State) (nodes dots : List ℕ) (rects : List ℤ) (marks : List �
         settings = h .valid .settingsFit;
         range = in-range;
         chain = chain₀;
-        standing = here-standing w₀ x h (dot .rect);
+        stands = here-stands h (dot .rect);
         dotsFit = leaf-formed (dot .rect) (x .settings) (root x) 0 (x .tree) (h .valid .wellFormed) .0;
-        counted = here-count w₀ x h (dot .rect);
+        counted = here-count h (dot .rect);
       },
       refl,
     )
@@ -156,15 +158,15 @@ module _ (s : State) (nodes dots : List ℕ) (rects : List ℤ) (marks : List �
   pub enough-is : (splits : ℕ) (told : Bool) → ((free : List ℕ) → FreeIn nodes (s .«free_group») free → told ≡ leb splits (length free)) → told ≡ leb splits (length (x .freeGroups))
   enough-is splits told tells = tells (x .freeGroups) groups-listed
 
-  pub go-start : (splits : ℕ) → splits ≡ splitsNeeded dot x → splits ≤ length (x .freeGroups)
-      → Going x dot (s .«free_place») nodes dots rects (s .«free_group») (l .node) (l .«node_data») splits
-  go-start splits e enough =
+  pub inserting-start : (splits : ℕ) → splits ≡ splitsNeeded dot x → splits ≤ length (x .freeGroups)
+      → Inserting x dot (s .«free_place») nodes dots rects (s .«free_group») (l .node) (l .«node_data») splits
+  inserting-start splits e enough =
       let rep = holds-represented w₀ x h in
       let a = arrived in
       let r = dot .rect in
       let d = placedIn dot x in
       let path = pathTo r (root x) (x .tree) in
-      subst (λ (y : Leaf). Going x dot (s .«free_place») nodes dots rects (s .«free_group») (y .node) (y .«node_data») splits) (sym at-leaf)
+      subst (λ (y : Leaf). Inserting x dot (s .«free_place») nodes dots rects (s .«free_group») (y .node) (y .«node_data») splits) (sym at-leaf)
       (record {
         tree = x .tree;
         path = path;

@@ -6,13 +6,13 @@ use mathlib.Core.List.{List}
 use Prim.Native.Nat.{ℕ}
 use lib.IntN.{ℤ}
 use Rattle.geometry.specs.declared.aabb.AABB.{AABB}
-use Rattle.model.specs.declared.Dot.{Dot}
 use Rattle.model.specs.Sums.{changed}
-use Rattle.model.specs.Laws.Sums.{changed-same, changed-other}
 use Rattle.model.specs.Memory.{Mem, read, firstAt, countAt, idAt, nextAt, rectAt, dotAt}
+use Rattle.model.specs.declared.Dot.{Dot}
+use Rattle.model.specs.Laws.Sums.{changed-same, changed-other}
 use Rattle.memory.specs.declared.node.Node.{Node}
-use Rattle.memory.specs.Rows.{HasNode, HasPlace, HasRect, setNodeAt, setNextAt, setIdAt, setRectAt}
 use Rattle.memory.specs.Laws.Stores.{changed-by, first-set, count-set, next-set, id-set, id-next, next-id, rect-set}
+use Rattle.memory.specs.Rows.{HasNode, HasPlace, HasRect, setNodeAt, setNextAt, setIdAt, setRectAt}
 use Rattle.tree.specs.Stores.{setFirst, setCount, setDot, setNext}
 
 -- a word that is stored as it was

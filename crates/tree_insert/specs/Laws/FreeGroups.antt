@@ -1,31 +1,22 @@
--- The list of free groups in the nodes, as far as a walk along it reads.
---     FreeIn, SomeFree
---     free-on, free-out    a turn of the walk, and the two ways out of it
---     stored-free          the free groups of a stored tree
-use mathlib.Core.Path.{_≡_, ap, sym, _∙_, subst}
+-- The walk along the free groups.
+--     free-on, free-short, free-enough     a turn of the walk, and the two ways out of it
+--     groups-free  the free groups of a stored tree
+use mathlib.Core.Path.{_≡_, sym, _∙_, subst, ap}
 use mathlib.Core.List.{List, [], _∷_}
 use mathlib.Core.Bool.{true, false}
-use Prim.Native.Nat.{ℕ, suc, _+_, _-_, _*_, _≤_, _<_}
+use Prim.Native.Nat.{ℕ, suc, _-_, _≤_, _+_, _*_, _<_}
 use native.Mathlib.Omega.{arith}
 use lib.ListN.{length}
 use lib.Dec.{leb}
 use borrow.Author.Tests.{le-leb, lt-leb, leb-true}
 use Rattle.arithmetic.specs.Linear.{same-test}
+use Rattle.model.specs.Layout.{none}
+use Rattle.model.specs.Memory.{firstAt, Mem, FreeGroups}
 use Rattle.model.specs.Sums.{indicator, sumOver}
 use Rattle.model.specs.Laws.Sums.{indicator-same}
 use Rattle.model.specs.Trees.{childNode}
-use Rattle.model.specs.Layout.{none}
-use Rattle.model.specs.Memory.{Mem, firstAt, FreeGroups}
 use Rattle.memory.specs.Rows.{HasNode}
-
--- from the head h
-abbrev pub FreeIn : List ℕ → ℕ → List ℕ → Type 0
-FreeIn nodes h [] = h ≡ none
-FreeIn nodes h (g ∷ gs) = ¬ (h ≡ none) × HasNode nodes h × FreeIn nodes (firstAt nodes h) gs
-
-pub record SomeFree (nodes : List ℕ) (head : ℕ) : Type 0 where
-  pub free : List ℕ
-  pub listed : FreeIn nodes head free
+use Rattle.tree_insert.specs.FreeGroups.{FreeIn}
 
 module _ (nodes : List ℕ) where
   -- the walk from h₀, which wanted n₀ groups, is at h and wants n more

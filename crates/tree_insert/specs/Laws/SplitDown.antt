@@ -1,81 +1,62 @@
--- The insert's loop in the rows: splits on the way down, then the push.
---     Going        an insert is on its way: a leaf of a stored tree, the splits left, and what the insert ends with
---     go-splits, go-on     what a split asks, and where the insert is after it
---     Pushed, go-push      the end: the dot is pushed, and the memory is stored as the insert says
+-- The splits on the way down.
+--     turn-down, turn-split        one turn of the loop, on the tree
+--     inserting-splits, inserting-on     what a split asks, and where the insert is after it
 use mathlib.Core.Path.{_≡_, refl, ap, sym, _∙_, subst}
 use mathlib.Core.List.{List, [], _∷_, _++_}
 use mathlib.Core.Bool.{true}
-use Prim.Native.Nat.{ℕ, zero, suc, _+_, _-_, _*_, _≤_, _<_}
+use Prim.Native.Nat.{ℕ, suc, zero, _-_, _≤_, _<_, _+_}
 use native.Mathlib.Omega.{arith}
-use lib.IntN.{ℤ}
 use lib.ListN.{length}
+use lib.IntN.{ℤ}
 use Rattle.arithmetic.specs.Tests.{byBool}
-use Rattle.geometry.specs.declared.settings.Settings.{Settings}
 use Rattle.geometry.specs.declared.node_data.NodeData.{NodeData}
+use Rattle.geometry.specs.declared.settings.Settings.{Settings}
+use Rattle.geometry.specs.Cells.{childData, InRange, route, maySplit}
 use Rattle.geometry.specs.declared.aabb.AABB.{AABB}
-use Rattle.geometry.specs.Settings.{inRange}
-use Rattle.geometry.specs.Cells.{InRange, childData, route, maySplit}
+use Rattle.geometry.specs.Laws.Ranges.{child-range, accepted}
 use Rattle.geometry.specs.Laws.Geometry.{route-child, may-splits}
-use Rattle.geometry.specs.Laws.Ranges.{accepted, child-range}
-use Rattle.model.specs.declared.Dot.{Dot}
+use Rattle.model.specs.Trees.{Placed, Tree, leaf, branch, childNode}
+use Rattle.model.specs.Insert.{routeDot, Grown, mustSplit, insertAt, deal, dealt}
 use Rattle.model.specs.Sums.{sumOver}
 use Rattle.model.specs.Laws.Sums.{sumOver-one, sumBelow-term}
-use Rattle.model.specs.Trees.{Placed, Tree, leaf, childNode}
-use Rattle.model.specs.Insert.{Grown, deal, dealt, mustSplit}
-use Rattle.model.specs.Shapes.{Shape, placedIn, grownBy}
-use Rattle.model.specs.Memory.{Mem, read, firstAt}
 use Rattle.model.specs.Laws.Insert.{splitCount, deal-sum}
-use Rattle.tree.specs.declared.find.Leaf.{Leaf}
-use Rattle.tree_insert.specs.declared.split.Reached.{Reached}
-use Rattle.tree.specs.Paths.{Children, sub, put}
+use Rattle.model.specs.declared.Dot.{Dot}
+use Rattle.model.specs.Shapes.{Shape, placedIn}
+use Rattle.model.specs.Memory.{Mem, read, firstAt}
+use Rattle.tree.specs.Paths.{sub, put, Reach}
+use Rattle.tree.specs.Laws.Splits.{splitTree, split-holds}
+use Rattle.tree.specs.Laws.Paths.{sub-put, put-put, sub-snoc, put-snoc, Children, reach-children, reach-put, node-snoc, reach-snoc}
+use Rattle.tree.specs.Stored.{Stored}
+use Rattle.tree.specs.Splits.{splitWords}
 use Rattle.tree.specs.Paths as paths
-use Rattle.tree.specs.Stores.{Stored}
-use Rattle.tree.specs.Splits.{splitTree, splitWords, split-holds}
-use Rattle.tree.specs.Inserts.{Reach, reach-children, sub-put, reach-put, sub-snoc, node-snoc, reach-snoc, Ended, Left, turn-down, turn-split}
-use Rattle.tree_insert.specs.Splitting.{Splittable, stored-splittable}
+use Rattle.tree_insert.specs.SplitDown.{Ended, endedFrom, Inserting}
+use Rattle.tree_insert.specs.LeafSplit.{Splittable}
+use Rattle.tree_insert.specs.Laws.LeafSplit.{stored-splittable}
 
--- the tree and the free groups that an insert leaves
-abbrev pub ended : Grown → Ended
-ended g = record { tree = g .tree; free = g .free }
+-- ---- one turn, on the tree
 
-pub record Going (x : Shape) (dot : Dot) (placeHead : ℕ) (nodes dots : List ℕ) (rects : List ℤ) (groupHead node : ℕ) (n : NodeData) (left : ℕ) : Type 0 where
-  pub tree : Tree
-  pub path : List ℕ
-  pub free : List ℕ
-  pub chain : List Placed
-  pub levels : ℕ
-  pub settings : inRange (x .settings) ≡ true
-  pub nodesFit : length nodes ≡ 2 + 10 * x .groups
-  pub dotsFit : length dots ≡ 2 * x .places
-  pub rectsFit : length rects ≡ 4 * x .places
-  pub reach : Reach tree path
-  pub here : sub tree path ≡ leaf chain
-  pub at : paths.nodeAt 0 tree path ≡ node
-  pub stored : Stored (x .groups) (x .places) (read nodes dots rects) groupHead placeHead tree free (x .freePlaces)
-  pub rest : splitCount (x .settings) levels n (dot .rect) (leaf chain) ≡ left
-  pub enough : left ≤ length free
-  pub short : length chain ≤ 65536
-  pub range : InRange (n .cell)
-  pub ends : Left (x .settings) (placedIn dot x) levels n tree path free ≡ ended (grownBy dot x (x .freeGroups))
+module _ (S : Settings) (d : Placed) where
+  pub turn-down : (n : ℕ) (c : NodeData) (t : Tree) (p free : List ℕ) (g : ℕ) (f : ℕ → Tree) → Reach t p → sub t p ≡ branch g f
+      → let i = routeDot c d in endedFrom S d (suc n) c t p free ≡ endedFrom S d n (childData c i) t (p ++ i ∷ []) free
+  turn-down n c t p free g f r e =
+      let i = routeDot c d in
+      ap (λ (x : Tree). let y = insertAt S (suc n) c d x free in record { tree = put t p (y .tree); free = y .free }) e
+      ∙ sym (ap (λ (x : Tree). let y = insertAt S n (childData c i) d x free in record { tree = put t (p ++ i ∷ []) (y .tree); free = y .free }) (sub-snoc g f i t p r e)
+      ∙ ap (λ (x : Tree). record { tree = x; free = insertAt S n (childData c i) d (f i) free .free }) (put-snoc g f i t p (insertAt S n (childData c i) d (f i) free .tree) r e))
 
--- the insert of every dot with this rectangle that was on its way in the one memory is on its way in the other
-abbrev pub Goes : AABB → List ℤ → List ℕ → List ℕ → ℕ → ℕ → NodeData → ℕ → List ℕ → List ℕ → ℕ → ℕ → NodeData → ℕ → Type 0
-Goes r rects nodes dots groupHead node n left nodes′ dots′ groupHead′ node′ n′ left′ =
-    (x : Shape) (dot : Dot) (placeHead : ℕ) → dot .rect ≡ r → Going x dot placeHead nodes dots rects groupHead node n left
-    → Going x dot placeHead nodes′ dots′ rects groupHead′ node′ n′ left′
+  pub turn-split : (n : ℕ) (c : NodeData) (t : Tree) (p : List ℕ) (g : ℕ) (free : List ℕ) (ds : List Placed) → Reach t p → sub t p ≡ leaf ds → mustSplit S c ds ≡ true
+      → endedFrom S d (suc n) c t p (g ∷ free) ≡ endedFrom S d (suc n) c (put t p (splitTree c g ds)) p free
+  turn-split n c t p g free ds r e b =
+      let u = splitTree c g ds in
+      let y = insertAt S (suc n) c d u free in
+      let ended : Grown → Ended = λ x. record { tree = put t p (x .tree); free = x .free } in
+      let z : ended (insertAt S (suc n) c d (leaf ds) (g ∷ free)) ≡ ended y = rw b refl in
+      ap (λ (x : Tree). let y = insertAt S (suc n) c d x (g ∷ free) in record { tree = put t p (y .tree); free = y .free }) e
+      ∙ z
+      ∙ sym (ap (λ (x : Tree). let y = insertAt S (suc n) c d x free in record { tree = put (put t p u) p (y .tree); free = y .free }) (sub-put u t p r)
+      ∙ ap (λ (x : Tree). record { tree = x; free = y .free }) (put-put t p u (y .tree) r))
 
--- what the loop asks: an insert is on its way
-pub record CanGo (r : AABB) (nodes dots : List ℕ) (rects : List ℤ) (groupHead : ℕ) (l : Leaf) (left : ℕ) : Type 0 where
-  pub shape : Shape
-  pub dot : Dot
-  pub rect : dot .rect ≡ r
-  pub placeHead : ℕ
-  pub going : Going shape dot placeHead nodes dots rects groupHead (l .node) (l .«node_data») left
-
--- what it leaves: it has made its splits
-abbrev pub Gone : AABB → List ℕ → List ℕ → List ℤ → ℕ → Leaf → ℕ → List ℕ → List ℕ → Reached → Type 0
-Gone r nodes dots rects groupHead l left nodes′ dots′ reached =
-    (n : NodeData) × Goes r rects nodes dots groupHead (l .node) (l .«node_data») left nodes′ dots′ (reached .group) (reached .node) n 0
+-- ---- one turn, in the rows
 
 -- where a split is left, the leaf must split, and a level and a group are there for it
 pub record Must (s : Settings) (levels : ℕ) (n : NodeData) (r : AABB) (chain : List Placed) (free : List ℕ) (left : ℕ) : Type 0 where
@@ -114,7 +95,7 @@ unfolding childData
 child-in n i r = child-range (n .cell) i r
 
 module _ (x : Shape) (dot : Dot) (placeHead : ℕ) (nodes dots : List ℕ) (rects : List ℤ) (groupHead node : ℕ) (n : NodeData) (left : ℕ)
-    (now : Going x dot placeHead nodes dots rects groupHead node n left) (some : 1 ≤ left) where
+    (now : Inserting x dot placeHead nodes dots rects groupHead node n left) (some : 1 ≤ left) where
   musts : Must (x .settings) (now .levels) n (dot .rect) (now .chain) (now .free) left
   musts = must (x .settings) (now .levels) n (dot .rect) (now .chain) (now .free) left (now .rest) some (now .enough)
 
@@ -130,18 +111,18 @@ module _ (x : Shape) (dot : Dot) (placeHead : ℕ) (nodes dots : List ℕ) (rect
       (stored-splittable (x .groups) (x .places) nodes dots rects groupHead placeHead (now .tree) (musts .group) (musts .others) (x .freePlaces) stored-group (now .nodesFit) (now .dotsFit) (now .rectsFit)
       (now .path) (now .chain) at-children (now .here) (now .short))
 
-  pub go-splits : Splittable nodes dots rects node groupHead
-  go-splits = splits .0
+  pub inserting-splits : Splittable nodes dots rects node groupHead
+  inserting-splits = splits .0
 
-  pub go-depth : n .depth < 255
-  go-depth = omega (arith, may-splits (x .settings) n (must-may (x .settings) n (now .chain) (musts .must)) .above, accepted (x .settings) (now .settings) .depth)
+  pub inserting-depth : n .depth < 255
+  inserting-depth = omega (arith, may-splits (x .settings) n (must-may (x .settings) n (now .chain) (musts .must)) .above, accepted (x .settings) (now .settings) .depth)
 
   -- after the split, at the child
-  pub go-on : (nodes′ dots′ : List ℕ) (next child : ℕ) (n′ : NodeData) → length nodes′ ≡ length nodes → length dots′ ≡ length dots
-      → read nodes′ dots′ rects ≡ splitWords n (read nodes dots rects) node (go-splits .group) (go-splits .chain) → next ≡ firstAt nodes groupHead → child ≡ route n (dot .rect) → n′ ≡ childData n child
-      → Going x dot placeHead nodes′ dots′ rects next (groupHead + child) n′ (left - 1)
-  unfolding go-splits
-  go-on nodes′ dots′ next child n′ ln ld words en ec e′ =
+  pub inserting-on : (nodes′ dots′ : List ℕ) (next child : ℕ) (n′ : NodeData) → length nodes′ ≡ length nodes → length dots′ ≡ length dots
+      → read nodes′ dots′ rects ≡ splitWords n (read nodes dots rects) node (inserting-splits .group) (inserting-splits .chain) → next ≡ firstAt nodes groupHead → child ≡ route n (dot .rect) → n′ ≡ childData n child
+      → Inserting x dot placeHead nodes′ dots′ rects next (groupHead + child) n′ (left - 1)
+  unfolding inserting-splits
+  inserting-on nodes′ dots′ next child n′ ln ld words en ec e′ =
       let d = placedIn dot x in
       let g = musts .group in
       let fs = musts .others in
@@ -180,7 +161,7 @@ module _ (x : Shape) (dot : Dot) (placeHead : ℕ) (nodes dots : List ℕ) (rect
         short = omega (arith, dealt-length n ds i (route-child n (dot .rect)), now .short);
         range = subst (λ (y : NodeData). InRange (y .cell)) known (child-in n i (now .range));
         ends =
-            ap (λ (y : NodeData). Left (x .settings) d (musts .below) y t₁ (p ++ i ∷ []) fs) (sym known)
+            ap (λ (y : NodeData). endedFrom (x .settings) d (musts .below) y t₁ (p ++ i ∷ []) fs) (sym known)
             ∙ sym (turn-split (x .settings) d (musts .below) n t p g fs ds (now .reach) (now .here) (musts .must) ∙ turn-down (x .settings) d (musts .below) n t₁ p fs g (dealt n ds) r₁ e₁)
-            ∙ (λ k. Left (x .settings) d (sym (musts .level) k) n t p (sym (musts .taken) k)) ∙ now .ends;
+            ∙ (λ k. endedFrom (x .settings) d (sym (musts .level) k) n t p (sym (musts .taken) k)) ∙ now .ends;
       }
