@@ -1,5 +1,5 @@
--- A chain in the rows, as code that follows it reads it.
---     ChainStands     the chain stands in the rows, from a link so many places on
+-- A chain in the rows (§2.5, §2.7), as code that follows it reads it.
+--     ChainStands  the chain stands in the rows, from a link so many places on
 use mathlib.Core.Path.{_≡_}
 use mathlib.Core.List.{List, [], _∷_}
 use Prim.Native.Nat.{ℕ, _-_, _≤_}

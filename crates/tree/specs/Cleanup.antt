@@ -1,4 +1,4 @@
--- The stores of the cleanup's walk, with the head of the free groups.
+-- The stores of the cleanup's walk (§7.2, §7.3), with the head of the free groups.
 --     Walk, collapse, cleanWords   the memory and the head; one branch collapses; the walk of a subtree
 --     TreeAndFree  the tree at a node and the free groups, no node twice
 use mathlib.Core.List.{List}

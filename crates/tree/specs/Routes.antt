@@ -1,7 +1,7 @@
--- The way of a rectangle from the root to its leaf, on the tree and in the nodes.
+-- The way of a rectangle from the root to its leaf (§4.4), on the tree and in the nodes.
 --     leafFor      the leaf's node with its node data
 --     Guided       the nodes lead through the tree
---     Way, LeadsTo         what the walk down asks, and the leaf that it tells
+--     Way, LeadsTo what the walk down asks, and the leaf that it tells
 use mathlib.Core.Path.{_≡_}
 use mathlib.Core.List.{List}
 use mathlib.Core.Bool.{false, true}

@@ -1,5 +1,5 @@
--- The stores of a split: a leaf takes the free group at the head, and its chain is dealt to the children's chains.
---     moveWords, dealWords         a dot moves to its child's chain; all dots of a chain
+-- The stores of a split (§5.2): a leaf takes the free group at the head, and its chain is dealt to the children's chains.
+--     moveWords, dealWords a dot moves to its child's chain; all dots of a chain
 --     takeGroup, splitWords        the leaf takes the group; the whole split
 use mathlib.Core.List.{List, [], _∷_}
 use Prim.Native.Nat.{ℕ, _+_}

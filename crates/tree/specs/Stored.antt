@@ -1,4 +1,4 @@
--- What the whole memory holds: a tree, the free groups, the free places, each number once.
+-- What the whole memory holds: a tree, the free groups, the free places, each number once (§2.12).
 use mathlib.Core.Path.{_≡_}
 use mathlib.Core.List.{List, map}
 use Prim.Native.Nat.{ℕ, _+_}

@@ -2,7 +2,7 @@
 --     sumNodes, nodeCount  a weight summed over the nodes; how often a node stands in the tree
 --     nodeTotal    how many nodes the tree has
 --     overGroup    a weight summed over the nodes of a group
---     TreeStands       the tree stands at a node, in rows that have its nodes and places
+--     TreeStands   the tree stands at a node, in rows that have its nodes and places
 use mathlib.Core.List.{List}
 use Prim.Native.Nat.{ℕ, _+_, _≤_, _<_}
 use lib.IntN.{ℤ}

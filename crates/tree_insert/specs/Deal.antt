@@ -1,4 +1,4 @@
--- The deal of a chain to the children of a group: what its loop asks; the memory after it is that of `dealWords`.
+-- The deal of a chain to the children of a group (§5.2): what its loop asks; the memory after it is that of `dealWords`.
 use mathlib.Core.Path.{_≡_}
 use mathlib.Core.List.{List}
 use Prim.Native.Nat.{ℕ, _+_, _≤_, _<_}

@@ -1,4 +1,4 @@
--- The list of free groups in the nodes, as far as a walk along it reads.
+-- The list of free groups in the nodes (§2.8), as far as a walk along it reads.
 --     FreeIn, SomeFree     the list from a head on; that there is one
 use mathlib.Core.Path.{_≡_}
 use mathlib.Core.List.{List, [], _∷_}

@@ -1,4 +1,4 @@
--- The split of a leaf in the rows: what its code asks; the memory after it is that of `splitWords`.
+-- The split of a leaf (§5.2) in the rows: what its code asks; the memory after it is that of `splitWords`.
 use mathlib.Core.Path.{_≡_}
 use mathlib.Core.List.{List}
 use Prim.Native.Nat.{ℕ, _+_, _≤_, _<_}

@@ -1,6 +1,6 @@
--- The push of a dot on a leaf.
---     pushedNodes, pushedDots, pushedRects     the rows after it
---     CanPush        what its stores ask
+-- The push of a dot on a leaf (§5.3).
+--     pushedNodes, pushedDots, pushedRects the rows after it
+--     CanPush      what its stores ask
 use mathlib.Core.List.{List}
 use Prim.Native.Nat.{ℕ, _+_, _<_}
 use lib.IntN.{ℤ}

@@ -1,8 +1,8 @@
--- The splits on the way down.
---     Ended, endedFrom, ended   the tree and the free groups that an insert ends with; what is left to do at the end of a path
---     Inserting        an insert is on its way: a leaf of a stored tree, the splits left, and what the insert ends with
---     Continues         every insert that was on its way in the one memory is on its way in the other
---     CanSplitDown, SplitsDone  what the loop asks, and what it leaves
+-- The splits on the way down (§5.2).
+--     Ended, endedFrom, ended      the tree and the free groups that an insert ends with; what is left to do at the end of a path
+--     Inserting    an insert is on its way: a leaf of a stored tree, the splits left, and what the insert ends with
+--     Continues    every insert that was on its way in the one memory is on its way in the other
+--     CanSplitDown, SplitsDone     what the loop asks, and what it leaves
 use mathlib.Core.List.{List}
 use mathlib.Core.Path.{_≡_}
 use mathlib.Core.Bool.{true}
@@ -39,7 +39,8 @@ module _ (S : Settings) (d : Placed) where
 abbrev pub ended : Grown → Ended
 ended g = record { tree = g .tree; free = g .free }
 
-pub record Inserting (x : Shape) (dot : Dot) (placeHead : ℕ) (nodes dots : List ℕ) (rects : List ℤ) (groupHead node : ℕ) (n : NodeData) (left : ℕ) : Type 0 where
+pub record Inserting (x : Shape) (dot : Dot) (placeHead : ℕ) (nodes dots : List ℕ) (rects : List ℤ) (groupHead node : ℕ) (n : NodeData)
+    (left : ℕ) : Type 0 where
   pub tree : Tree
   pub path : List ℕ
   pub free : List ℕ

@@ -1,6 +1,6 @@
--- The splits that an insert needs, counted without a store.
+-- The splits that an insert needs (§5.2), counted without a store.
 --     within       the dots within bounds
---     SomeChain what the count of a chain asks
+--     SomeChain    what the count of a chain asks
 --     Countable, Needed    what the count of the splits asks and tells
 use mathlib.Core.Path.{_≡_}
 use mathlib.Core.List.{List}

@@ -1,4 +1,4 @@
--- The search along a leaf's chain, and the dot that it finds taken out.
+-- The search along a leaf's chain (§6.2), and the dot that it finds taken out.
 --     hitIn        the first dot with an id, and the place before it
 --     Linked       the chain stands in the dots
 --     Searchable   what the search asks

@@ -1,6 +1,6 @@
 -- A chain in the rows.
---     stands-here        where places are left, the next one is there
---     chained-stands     a chain of the memory stands in the rows
+--     stands-here  where places are left, the next one is there
+--     chained-stands       a chain of the memory stands in the rows
 use mathlib.Core.Path.{_≡_, ap, sym, _∙_, subst}
 use mathlib.Core.List.{List, [], _∷_}
 use Prim.Native.Nat.{ℕ, _-_, _≤_}

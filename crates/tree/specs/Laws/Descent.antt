@@ -1,6 +1,7 @@
 -- The walk down to a leaf.
 --     stepsLeft    how far a leaf can be at most
---     OnWay, way-facts, way-on, arrived        the walk's invariant, a turn, its end
+--     Descending, down-start, down-depth, down-node, down-less, down-on, down-arrived
+--                  the walk's invariant, its begin, what a turn asks, a turn, its end
 use mathlib.Core.Path.{_≡_, refl, ap, sym, _∙_, subst}
 use mathlib.Core.Bool.{false, cond}
 use mathlib.Core.List.{List}
@@ -9,7 +10,7 @@ use native.Mathlib.Omega.{arith}
 use lib.Dec.{eqb}
 use Rattle.arithmetic.specs.Tests.{byBool}
 use Rattle.geometry.specs.declared.node_data.NodeData.{NodeData}
-use Rattle.geometry.specs.Cells.{childData, route}
+use Rattle.geometry.specs.Cells.{childData, route, InRange, rootData}
 use Rattle.geometry.specs.declared.aabb.AABB.{AABB}
 use Rattle.geometry.specs.Laws.Geometry.{route-child}
 use Rattle.model.specs.Trees.{Tree, leaf, branch, childNode}
@@ -17,7 +18,11 @@ use Rattle.model.specs.Shapes.{below}
 use Rattle.model.specs.Layout.{branchMark}
 use Rattle.model.specs.Memory.{firstAt, countAt}
 use Rattle.memory.specs.Rows.{HasNode}
-use Rattle.tree.specs.Routes.{leafFor, Guided}
+use Rattle.tree.specs.Routes.{leafFor, Guided, Way, LeadsTo}
+use Rattle.geometry.specs.declared.settings.Settings.{Settings}
+use Rattle.geometry.specs.Laws.Ranges.{accepted, root-range, child-range}
+use Rattle.memory.specs.declared.node.Node.{Node}
+use Rattle.memory.specs.Nodes.{nodeAt}
 
 -- how far a leaf can be at most
 abbrev pub stepsLeft : NodeData → ℕ
@@ -30,11 +35,11 @@ pub steps-fall : (n : NodeData) (i : ℕ) → n .«is_child_0» ≡ false → n 
 unfolding childData
 steps-fall n i e d = rw e (byBool (eqb i 0) (λ z. rw z (omega arith)) (λ z. rw z (omega arith)))
 
-module _ (nodes : List ℕ) (r : AABB) where
-  pub guided-has : (n : NodeData) (a : ℕ) (u : Tree) → Guided nodes n a u → HasNode nodes a
-  guided-has n a (leaf chain) g = g .0
-  guided-has n a (branch k f) g = g .0
+guided-has : (nodes : List ℕ) (n : NodeData) (a : ℕ) (u : Tree) → Guided nodes n a u → HasNode nodes a
+guided-has nodes n a (leaf chain) g = g .0
+guided-has nodes n a (branch k f) g = g .0
 
+module _ (nodes : List ℕ) (r : AABB) where
   -- from a branch, whose first word is h, to the child
   pub record Turned (n : NodeData) (a h : ℕ) (u : Tree) : Type 0 where
     pub depth : n .depth < 255
@@ -43,7 +48,7 @@ module _ (nodes : List ℕ) (r : AABB) where
     pub guided : Guided nodes (childData n (route n r)) (h + route n r) below
     pub same : leafFor r n a u ≡ leafFor r (childData n (route n r)) (h + route n r) below
 
-  pub turn : (n : NodeData) (a : ℕ) (u : Tree) → Guided nodes n a u → countAt nodes a ≡ branchMark → Turned n a (firstAt nodes a) u
+  turn : (n : NodeData) (a : ℕ) (u : Tree) → Guided nodes n a u → countAt nodes a ≡ branchMark → Turned n a (firstAt nodes a) u
   turn n a (leaf chain) g e = absurd (g .1 e)
   turn n a (branch k f) g e =
       let i = route n r in
@@ -56,41 +61,87 @@ module _ (nodes : List ℕ) (r : AABB) where
         same = ap (λ (y : ℕ). leafFor r (childData n i) y (f i)) b;
       }
 
-  pub arrived : (n : NodeData) (a : ℕ) (u : Tree) → Guided nodes n a u → ¬ (countAt nodes a ≡ branchMark) → leafFor r n a u ≡ record { node = a; «node_data» = n }
-  arrived n a (leaf chain) g e = refl
-  arrived n a (branch k f) g e = absurd (e (g .1))
+  at-end : (n : NodeData) (a : ℕ) (u : Tree) → Guided nodes n a u → ¬ (countAt nodes a ≡ branchMark) → leafFor r n a u ≡ record { node = a; «node_data» = n }
+  at-end n a (leaf chain) g e = refl
+  at-end n a (branch k f) g e = absurd (e (g .1))
 
-  -- the walk that began with n₀ at the root is at the node a, with n
-  abbrev pub OnWay : NodeData → NodeData → ℕ → Type 0
-  OnWay n₀ n a = (t : Tree) → Guided nodes n₀ 0 t → (u : Tree) × Guided nodes n a u × (leafFor r n₀ 0 t ≡ leafFor r n a u)
+-- ---- the loop
 
-  -- a turn of the walk at a branch whose first word is h, into the child i
-  module _ (n₀ n : NodeData) (a h i : ℕ) (on : OnWay n₀ n a) (branches : countAt nodes a ≡ branchMark) (eh : h ≡ firstAt nodes a) (ei : i ≡ route n r) where
-    pub way-on : (n′ : NodeData) → n′ ≡ childData n i → OnWay n₀ n′ (h + i)
-    way-on n′ e t g =
-        let o = on t g in
-        let m = turn n a (o .0) (o .1) branches in
-        let known : childData n (route n r) ≡ n′ = ap (childData n) (sym ei) ∙ sym e in
-        let node : firstAt nodes a + route n r ≡ h + i = omega arith in (
-          m .below,
-          subst (λ (y : NodeData). Guided nodes y (h + i) (m .below)) known (subst (λ (y : ℕ). Guided nodes (childData n (route n r)) y (m .below)) node (m .guided)),
-          o .2 ∙ m .same ∙ (λ j. leafFor r (known j) (node j) (m .below)),
+-- the walk that began with n₀ at the root is at the node a, with n, and has read its words:
+-- every tree that the nodes lead through has a subtree there, with the same leaf for the rectangle
+pub record Descending (nodes : List ℕ) (r : AABB) (n₀ n : NodeData) (a : ℕ) (words : Node) : Type 0 where
+  pub read : words ≡ nodeAt nodes a
+  pub range : InRange (n .cell)
+  pub leads : (t : Tree) → Guided nodes n₀ 0 t → (u : Tree) × Guided nodes n a u × (leafFor r n₀ 0 t ≡ leafFor r n a u)
+
+module _ {s : Settings} {nodes : List ℕ} (way : Way s nodes) where
+  pub root-has : HasNode nodes 0
+  root-has = guided-has nodes (rootData s) 0 (way .tree) (way .guided)
+
+  module _ {r : AABB} {n₀ : NodeData} (begin : n₀ ≡ rootData s) where
+    pub down-start : {words : Node} → words ≡ nodeAt nodes 0 → Descending nodes r n₀ n₀ 0 words
+    unfolding rootData
+    down-start e =
+        record {
+          read = e;
+          range = subst (λ (n : NodeData). InRange (n .cell)) (sym begin) (root-range s (accepted s (way .accepted) .root));
+          leads = λ t g. (t, g, refl);
+        }
+
+    module _ {n : NodeData} {a : ℕ} {words : Node} (down : Descending nodes r n₀ n a words) where
+      from : (t : Tree) → Guided nodes (rootData s) 0 t → (u : Tree) × Guided nodes n a u × (leafFor r n₀ 0 t ≡ leafFor r n a u)
+      from t g = down .leads t (subst (λ (n : NodeData). Guided nodes n 0 t) (sym begin) g)
+
+      -- no branch: this is the leaf
+      pub down-arrived : ¬ (words .count ≡ branchMark) → LeadsTo s nodes r (record { node = a; «node_data» = n })
+      down-arrived ne t g =
+          let o = from t g in
+          let leaf : leafFor r n a (o .0) ≡ record { node = a; «node_data» = n } =
+          at-end nodes r n a (o .0) (o .1) (λ e. ne (ap (λ (w : Node). w .count) (down .read) ∙ e)) in
+          sym (ap (λ (n : NodeData). leafFor r n 0 t) (sym begin) ∙ o .2 ∙ leaf)
+
+      -- a branch, and the child on the way
+      module _ (branches : words .count ≡ branchMark) {child : ℕ} (ec : child ≡ route n r) where
+        counts : countAt nodes a ≡ branchMark
+        counts = sym (ap (λ (w : Node). w .count) (down .read)) ∙ branches
+
+        turned : (t : Tree) → (u : Tree) → Guided nodes n a u → Turned nodes r n a (words .first) u
+        turned t u g =
+            subst (λ (h : ℕ). Turned nodes r n a h u) (sym (ap (λ (w : Node). w .first) (down .read))) (turn nodes r n a u g counts)
+
+        here : Turned nodes r n a (words .first) (from (way .tree) (way .guided) .0)
+        here = turned (way .tree) (from (way .tree) (way .guided) .0) (from (way .tree) (way .guided) .1)
+
+        pub down-depth : n .depth < 255
+        down-depth = here .depth
+
+        pub down-node : (child < 5) × HasNode nodes (words .first + child)
+        down-node = (
+          omega (arith, route-child n r),
+          omega (arith, guided-has nodes (childData n (route n r)) (words .first + route n r) (here .below) (here .guided)),
         )
 
-    -- what holds there, by any tree that the nodes lead through
-    pub record WayOn : Type 0 where
-      pub depth : n .depth < 255
-      pub child : i < 5
-      pub node : HasNode nodes (h + i)
-      pub less : (n′ : NodeData) → n′ ≡ childData n i → stepsLeft n′ < stepsLeft n
+        module _ {n′ : NodeData} (e : n′ ≡ childData n child) where
+          known : childData n (route n r) ≡ n′
+          known = ap (childData n) (sym ec) ∙ sym e
 
-    pub way-facts : (t : Tree) → Guided nodes n₀ 0 t → WayOn
-    way-facts t g =
-        let o = on t g in
-        let m = turn n a (o .0) (o .1) branches in
-        record {
-          depth = m .depth;
-          child = omega (arith, route-child n r);
-          node = omega (arith, guided-has (childData n (route n r)) (firstAt nodes a + route n r) (m .below) (m .guided));
-          less = λ n′ e. subst (λ (y : NodeData). stepsLeft y < stepsLeft n) (ap (childData n) (sym ei) ∙ sym e) (m .less);
-        }
+          pub down-less : stepsLeft n′ < stepsLeft n
+          down-less = subst (λ (y : NodeData). stepsLeft y < stepsLeft n) known (here .less)
+
+          pub down-on : {words′ : Node} → words′ ≡ nodeAt nodes (words .first + child) → Descending nodes r n₀ n′ (words .first + child) words′
+          unfolding childData
+          down-on ew =
+              let b = words .first + child in
+              record {
+                read = ew;
+                range = subst (λ (y : NodeData). InRange (y .cell)) known (child-range (n .cell) (route n r) (down .range));
+                leads = λ t g.
+                    let o = down .leads t g in
+                    let m = turned t (o .0) (o .1) in
+                    let node : words .first + route n r ≡ b = omega arith in (
+                      m .below,
+                      subst (λ (y : NodeData). Guided nodes y b (m .below)) known
+                          (subst (λ (y : ℕ). Guided nodes (childData n (route n r)) y (m .below)) node (m .guided)),
+                      o .2 ∙ m .same ∙ (λ j. leafFor r (known j) (node j) (m .below)),
+                    );
+              }

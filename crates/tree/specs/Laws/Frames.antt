@@ -22,7 +22,8 @@ SameNode m w k = (m .first k ≡ w .first k) × (m .count k ≡ w .count k)
 
 -- ---- the frame of a chain
 
-pub chain-frame : (m w : Mem) (h : ℕ) (ds : List Placed) (e : ℕ) → ((k : ℕ) → 1 ≤ sumOver (atPlace k) ds → SamePlace m w k) → Chained m h ds e → Chained w h ds e
+pub chain-frame : (m w : Mem) (h : ℕ) (ds : List Placed) (e : ℕ) → ((k : ℕ) → 1 ≤ sumOver (atPlace k) ds → SamePlace m w k) → Chained m h ds e
+    → Chained w h ds e
 chain-frame m w h [] e s r = r
 chain-frame m w h (d ∷ ds) e s r =
     let p = d .place in
@@ -70,7 +71,8 @@ chain-drop m w h xs q d ys e s i x g =
 
 -- ---- the frame of a tree, of the free groups
 
-pub tree-frame : (m w : Mem) (a : ℕ) (t : Tree) → ((k : ℕ) → 1 ≤ nodeCount k a t → SameNode m w k) → ((k : ℕ) → 1 ≤ placeCount k t → SamePlace m w k) → Represents m a t → Represents w a t
+pub tree-frame : (m w : Mem) (a : ℕ) (t : Tree) → ((k : ℕ) → 1 ≤ nodeCount k a t → SameNode m w k) → ((k : ℕ) → 1 ≤ placeCount k t → SamePlace m w k)
+    → Represents m a t → Represents w a t
 tree-frame m w a (leaf c) n p r =
     let s = n a (omega (arith, indicator-same a)) in
     (sym (s .1) ∙ r .0, subst (λ (x : ℕ). Chained w x c none) (s .0) (chain-frame m w (m .first a) c none p (r .1)))
@@ -85,7 +87,8 @@ tree-frame m w a (branch g f) n p r =
           (r .2 i b),
     )
 
-pub free-frame : (m w : Mem) (h : ℕ) (gs : List ℕ) → ((g i : ℕ) → 1 ≤ sumOver (indicator g) gs → i < 5 → SameNode m w (childNode g i)) → FreeGroups m h gs → FreeGroups w h gs
+pub free-frame : (m w : Mem) (h : ℕ) (gs : List ℕ) → ((g i : ℕ) → 1 ≤ sumOver (indicator g) gs → i < 5 → SameNode m w (childNode g i)) → FreeGroups m h gs
+    → FreeGroups w h gs
 free-frame m w h [] s r = r
 free-frame m w h (g ∷ gs) s r =
     let z = s g 0 (omega (arith, indicator-same g)) (omega arith) in (

@@ -1,12 +1,12 @@
 -- A leaf in the rows.
 --     group-inside, place-inside, node-inside      the groups, places and nodes of a stored tree are there
---     leaf-inside, leaf-count, leaf-stands       a leaf at the end of a path of a stored tree
---     here-inside, here-count, here-stands ..    the leaf that a rectangle routes to, in a world that holds a shape
+--     leaf-inside, leaf-count, leaf-stands a leaf at the end of a path of a stored tree
+--     here-inside, here-count, here-stands ..      the leaf that a rectangle routes to, in a world that holds a shape
 --     leads-leaf, leads-has        the same of the leaf that the walk down has found
 use mathlib.Core.Path.{_≡_, ap, sym, subst, _∙_}
 use mathlib.Core.List.{List}
-use Prim.Native.Nat.{ℕ, _+_, _-_, _*_, _/_, _%_, _≤_, _<_}
-use native.Mathlib.Decide.{ℕ-discrete, decLt}
+use Prim.Native.Nat.{ℕ, _+_, _*_, _≤_, _<_}
+use native.Mathlib.Decide.{decLt}
 use native.Mathlib.Omega.{arith}
 use lib.IntN.{ℤ}
 use lib.ListN.{length}

@@ -1,8 +1,8 @@
 -- A subtree at the end of a path, and its replacement.
 --     sumDots-put, sumGroups-put   what that does to every weight
 --     tree-put     THE UPDATE LAW of the memory
---     nodes-groups         a node stands in the tree as often as its group
---     sub-put, put-put, reach-put          a subtree that was put
+--     nodes-groups, node-zero      a node stands in the tree as often as its group, node 0 as the root
+--     sub-put, put-put, reach-put  a subtree that was put
 --     sub-snoc, node-snoc, put-snoc ..     a path one step longer
 use mathlib.Core.List.{List, [], _∷_, _++_}
 use mathlib.Core.Path.{_≡_, sym, _∙_, subst, ap, refl, fun-ext}
@@ -10,8 +10,12 @@ use Prim.Native.Nat.{ℕ, _<_, _+_, _≤_}
 use native.Mathlib.Omega.{arith}
 use native.Mathlib.Decide.{ℕ-discrete}
 use Rattle.model.specs.Trees.{Tree, leaf, branch, Placed, childNode, sumDots, sumGroups, atPlace, placeCount, groupCount}
-use Rattle.model.specs.Laws.Sums.{sumBelow-term, sumBelow-changed, indicator-same, sumBelow-two, changed-all, indicator-other, sumBelow-ext, sumBelow-add, sumBelow-zero, sumBelow-only, byDec, changed-same, changed-other}
-use Rattle.model.specs.Sums.{indicator, sumBelow, changed}
+use Rattle.model.specs.Laws.Sums.{sumBelow-term, sumBelow-changed, indicator-same, sumBelow-two, changed-all, sumBelow-ext}
+use Rattle.model.specs.Laws.Sums.{byDec, changed-same, changed-other}
+use Rattle.model.specs.Sums.{indicator, changed, sumOver}
+use Rattle.model.specs.Layout.{NodeEntry, treeNodes}
+use Rattle.model.specs.Laws.Lists.{sumOver-joinBelow}
+use Rattle.model.specs.Laws.Entries.{tree-nodes, tree-zero}
 use Rattle.model.specs.Memory.{Mem, Represents}
 use Rattle.tree.specs.Paths.{Reach, sub, nodeAt, put}
 use Rattle.tree.specs.Trees.{sumNodes, nodeCount}
@@ -35,7 +39,8 @@ sumDots-put h (leaf c) (i ∷ p) u k = omega arith
 sumDots-put h (branch g f) (i ∷ p) u k =
     omega (arith, sumDots-put h (f i) p u (k .1), sumBelow-changed 5 (λ j x. sumDots h x) f i (put (f i) p u) (k .0))
 
-pub sumGroups-put : (h : ℕ → ℕ) (t : Tree) (p : List ℕ) (u : Tree) → Children p → sumGroups h (put t p u) + sumGroups h (sub t p) ≡ sumGroups h t + sumGroups h u
+pub sumGroups-put : (h : ℕ → ℕ) (t : Tree) (p : List ℕ) (u : Tree) → Children p
+    → sumGroups h (put t p u) + sumGroups h (sub t p) ≡ sumGroups h t + sumGroups h u
 sumGroups-put h t [] u k = omega arith
 sumGroups-put h (leaf c) (i ∷ p) u k = omega arith
 sumGroups-put h (branch g f) (i ∷ p) u k =
@@ -49,7 +54,8 @@ sumDots-sub h (branch g f) (i ∷ p) k = omega (arith, sumDots-sub h (f i) p (k 
 pub sumNodes-sub : (h : ℕ → ℕ) (a : ℕ) (t : Tree) (p : List ℕ) → Children p → sumNodes h (nodeAt a t p) (sub t p) ≤ sumNodes h a t
 sumNodes-sub h a t [] k = omega arith
 sumNodes-sub h a (leaf c) (i ∷ p) k = omega arith
-sumNodes-sub h a (branch g f) (i ∷ p) k = omega (arith, sumNodes-sub h (childNode g i) (f i) p (k .1), sumBelow-term 5 (λ j. sumNodes h (childNode g j) (f j)) i (k .0))
+sumNodes-sub h a (branch g f) (i ∷ p) k =
+    omega (arith, sumNodes-sub h (childNode g i) (f i) p (k .1), sumBelow-term 5 (λ j. sumNodes h (childNode g j) (f j)) i (k .0))
 
 -- ---- what the memory holds
 
@@ -70,7 +76,9 @@ tree-put m w a (branch g f) (i ∷ p) u k on op sn sp r v =
     let N : ℕ → ℕ → ℕ = λ x j. nodeCount x (childNode g j) (f j) in
     let P : ℕ → ℕ → ℕ = λ x j. placeCount x (f j) in
     let b = nodeAt (childNode g i) (f i) p in
-    let s = sn a (omega (arith, indicator-same a)) (omega (arith, indicator-same a, on a, sumBelow-term 5 (N a) i (k .0), sumNodes-sub (indicator a) (childNode g i) (f i) p (k .1))) in (
+    let s =
+    sn a (omega (arith, indicator-same a))
+    (omega (arith, indicator-same a, on a, sumBelow-term 5 (N a) i (k .0), sumNodes-sub (indicator a) (childNode g i) (f i) p (k .1))) in (
       sym (s .1) ∙ r .0,
       sym (s .0) ∙ r .1,
       λ j jb.
@@ -92,25 +100,24 @@ tree-put m w a (branch g f) (i ∷ p) u k on op sn sp r v =
           (r .2 j jb)),
     )
 
--- ---- nodes are once where groups are: node 1 + 5q + r is in the tree as often as group q, besides the root
+-- ---- a node stands in the tree as often as its group, besides the root
 
-children-indicator : (q r g : ℕ) → r < 5 → sumBelow 5 (λ i. indicator (childNode q r) (childNode g i)) ≡ indicator q g
-children-indicator q r g b =
-    byDec (ℕ-discrete q g)
-    (λ e.
-    sumBelow-only 5 (λ i. indicator (childNode q r) (childNode g i)) r b (λ j jb ne. indicator-other (childNode q r) (childNode g j) (λ x. ne (omega arith)))
-    ∙ ap (λ (y : ℕ). indicator (childNode q r) (childNode y r)) (sym e) ∙ indicator-same (childNode q r) ∙ sym (ap (λ (y : ℕ). indicator q y) (sym e) ∙ indicator-same q))
-    (λ ne. sumBelow-zero 5 (λ i. indicator (childNode q r) (childNode g i)) (λ j jb. indicator-other (childNode q r) (childNode g j) (λ x. ne (omega arith))) ∙ sym (indicator-other q g ne))
-
-pub nodes-groups : (q r a : ℕ) (t : Tree) → r < 5 → nodeCount (childNode q r) a t ≡ indicator (childNode q r) a + groupCount q t
-nodes-groups q r a (leaf c) b = omega arith
-nodes-groups q r a (branch g f) b =
+-- the nodes are those of the layout's entries
+sumNodes-entries : (h : ℕ → ℕ) (a : ℕ) (t : Tree) → sumNodes h a t ≡ sumOver (λ e. h (e .node)) (treeNodes a t)
+sumNodes-entries h a (leaf c) = omega arith
+sumNodes-entries h a (branch g f) =
     omega (
       arith,
-      sumBelow-ext 5 (λ i. nodeCount (childNode q r) (childNode g i) (f i)) (λ i. indicator (childNode q r) (childNode g i) + groupCount q (f i)) (λ i ib. nodes-groups q r (childNode g i) (f i) b),
-      sumBelow-add 5 (λ i. indicator (childNode q r) (childNode g i)) (λ i. groupCount q (f i)),
-      children-indicator q r g b,
+      sumOver-joinBelow (λ (e : NodeEntry). h (e .node)) 5 (λ i. treeNodes (childNode g i) (f i)),
+      sumBelow-ext 5 (λ i. sumNodes h (childNode g i) (f i)) (λ i. sumOver (λ e. h (e .node)) (treeNodes (childNode g i) (f i)))
+          (λ i b. sumNodes-entries h (childNode g i) (f i)),
     )
+
+pub nodes-groups : (q r a : ℕ) (t : Tree) → r < 5 → nodeCount (childNode q r) a t ≡ indicator (childNode q r) a + groupCount q t
+nodes-groups q r a t b = sumNodes-entries (indicator (childNode q r)) a t ∙ tree-nodes q r a t b
+
+pub node-zero : (a : ℕ) (t : Tree) → nodeCount 0 a t ≡ indicator 0 a
+node-zero a t = sumNodes-entries (indicator 0) a t ∙ tree-zero a t
 
 -- ---- a subtree that was put
 

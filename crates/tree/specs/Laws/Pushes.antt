@@ -33,7 +33,8 @@ unfolding pushWords
 push-place m b d k ne =
     (sym (changed-other (m .dot) (d .place) (d .dot) k ne), sym (changed-other (m .next) (d .place) (m .first b) k ne))
 
-push-leaf : (m : Mem) (b : ℕ) (d : Placed) (c : List Placed) → sumOver (atPlace (d .place)) c ≡ 0 → Represents m b (leaf c) → Represents (pushWords m b d) b (leaf (d ∷ c))
+push-leaf : (m : Mem) (b : ℕ) (d : Placed) (c : List Placed) → sumOver (atPlace (d .place)) c ≡ 0 → Represents m b (leaf c)
+    → Represents (pushWords m b d) b (leaf (d ∷ c))
 unfolding pushWords
 push-leaf m b d c z r =
     let w = pushWords m b d in (
@@ -44,7 +45,8 @@ push-leaf m b d c z r =
           (changed-same (m .dot) (d .place) (d .dot)) (changed-same (m .next) (d .place) (m .first b)) (r .1)),
     )
 
-pub push-holds : (G N : ℕ) (m : Mem) (groupHead placeHead : ℕ) (t : Tree) (free spare : List ℕ) (path : List ℕ) (c : List Placed) (d : Placed) → Children path → sub t path ≡ leaf c
+pub push-holds : (G N : ℕ) (m : Mem) (groupHead placeHead : ℕ) (t : Tree) (free spare : List ℕ) (path : List ℕ) (c : List Placed) (d : Placed)
+    → Children path → sub t path ≡ leaf c
     → Stored G N m groupHead placeHead t free (d .place ∷ spare)
     → Stored G N (pushWords m (nodeAt 0 t path) d) groupHead (m .next (d .place)) (put t path (leaf (d ∷ c))) free spare
 push-holds G N m groupHead placeHead t free spare path c d children e H =
@@ -70,7 +72,8 @@ push-holds G N m groupHead placeHead t free spare path c d children e H =
           (λ g i h l. push-node m b d (childNode g i) (λ x. node-not-free t b g i l (omega (arith, H .groupsOnce g, below-le g G)) inN (sym x)))
           (H .groups);
       places =
-          chain-frame m w (m .next p) (map blank spare) none (λ k h. push-place m b d k (λ x. omega (arith, ap (λ (y : ℕ). sumOver (atPlace y) (map blank spare)) x))) (H .places .2);
+          chain-frame m w (m .next p) (map blank spare) none
+          (λ k h. push-place m b d k (λ x. omega (arith, ap (λ (y : ℕ). sumOver (atPlace y) (map blank spare)) x))) (H .places .2);
       groupsOnce = λ k. omega (arith, H .groupsOnce k, sumGroups-put (indicator k) t path (leaf (d ∷ c)) children, ap (sumGroups (indicator k)) e);
       placesOnce = λ k. omega (arith, H .placesOnce k, sumDots-put (atPlace k) t path (leaf (d ∷ c)) children, ap (sumDots (atPlace k)) e);
     }

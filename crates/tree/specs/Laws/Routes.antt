@@ -67,25 +67,24 @@ module _ (r : AABB) where
 
 -- ---- in the nodes
 
-module _ (nodes : List ℕ) where
-  module _ (m : Mem) (firsts : m .first ≡ firstAt nodes) (counts : m .count ≡ countAt nodes) (s : Settings) (limit : s .«depth_limit» ≤ 255)
-      (groups : ℕ) (fits : length nodes ≡ 2 + 10 * groups) where
-    represents-guided : (n : NodeData) (a : ℕ) (t : Tree) → Represents m a t → WellFormed s n t → HasNode nodes a
-        → ((k : ℕ) → groupCount k t ≤ below k groups) → size t < branchMark → Guided nodes n a t
-    represents-guided n a (leaf chain) r v h k small = (h, λ e. omega (arith, ap (λ (f : ℕ → ℕ). f a) counts, r .0, sumOver-one chain))
-    represents-guided n a (branch g f) r v h k small =
-        let may = may-splits s n (v .0) in
-        let inside : g < groups = byDec (decLt g groups) (λ l. l) (λ l. absurd (omega (arith, k g, below-no g groups (omega arith), indicator-same g))) in (
-          h,
-          sym (ap (λ (f : ℕ → ℕ). f a) counts) ∙ r .0,
-          sym (ap (λ (f : ℕ → ℕ). f a) firsts) ∙ r .1,
-          may .noChild0,
-          omega (arith, may .above),
-          λ i b.
-              represents-guided (childData n i) (childNode g i) (f i) (r .2 i b) (v .1 i b .1) (omega arith)
-              (λ j. omega (arith, k j, sumBelow-term 5 (λ i. groupCount j (f i)) i b))
-              (omega (arith, sumBelow-term 5 (λ i. size (f i)) i b)),
-        )
+module _ (nodes : List ℕ) (m : Mem) (firsts : m .first ≡ firstAt nodes) (counts : m .count ≡ countAt nodes)
+    (s : Settings) (limit : s .«depth_limit» ≤ 255) (groups : ℕ) (fits : length nodes ≡ 2 + 10 * groups) where
+  represents-guided : (n : NodeData) (a : ℕ) (t : Tree) → Represents m a t → WellFormed s n t → HasNode nodes a
+      → ((k : ℕ) → groupCount k t ≤ below k groups) → size t < branchMark → Guided nodes n a t
+  represents-guided n a (leaf chain) r v h k small = (h, λ e. omega (arith, ap (λ (f : ℕ → ℕ). f a) counts, r .0, sumOver-one chain))
+  represents-guided n a (branch g f) r v h k small =
+      let may = may-splits s n (v .0) in
+      let inside : g < groups = byDec (decLt g groups) (λ l. l) (λ l. absurd (omega (arith, k g, below-no g groups (omega arith), indicator-same g))) in (
+        h,
+        sym (ap (λ (f : ℕ → ℕ). f a) counts) ∙ r .0,
+        sym (ap (λ (f : ℕ → ℕ). f a) firsts) ∙ r .1,
+        may .noChild0,
+        omega (arith, may .above),
+        λ i b.
+            represents-guided (childData n i) (childNode g i) (f i) (r .2 i b) (v .1 i b .1) (omega arith)
+            (λ j. omega (arith, k j, sumBelow-term 5 (λ i. groupCount j (f i)) i b))
+            (omega (arith, sumBelow-term 5 (λ i. size (f i)) i b)),
+      )
 
 pub holds-guided : (w : World) (x : Shape) → Holds w x → Guided (w .nodes) (root x) 0 (x .tree)
 unfolding branchMark

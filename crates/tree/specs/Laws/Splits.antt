@@ -34,7 +34,8 @@ module _ (nd : NodeData) where
   -- ---- what is left alone
 
   move-node : (m : Mem) (g : ℕ) (d : Placed) (k : ℕ) → k ≢ childNode g (routeDot nd d) → SameNode m (moveWords nd m g d) k
-  move-node m g d k ne = let n = childNode g (routeDot nd d) in (sym (changed-other (m .first) n (d .place) k ne), sym (changed-other (m .count) n (m .count n + 1) k ne))
+  move-node m g d k ne =
+      let n = childNode g (routeDot nd d) in (sym (changed-other (m .first) n (d .place) k ne), sym (changed-other (m .count) n (m .count n + 1) k ne))
 
   move-place : (m : Mem) (g : ℕ) (d : Placed) (k : ℕ) → k ≢ d .place → SamePlace m (moveWords nd m g d) k
   move-place m g d k ne = (refl, sym (changed-other (m .next) (d .place) (m .first (childNode g (routeDot nd d))) k ne))
@@ -69,14 +70,16 @@ module _ (nd : NodeData) where
       let notin : (j k : ℕ) → j < 5 → 1 ≤ sumOver (atPlace k) (acc j) → k ≢ p =
       λ j k jb c e. omega (arith, o p, indicator-same p, ap (λ (y : ℕ). A y j) e, sumBelow-term 5 (A p) j jb) in
       deal-children w g (changed acc q (d ∷ acc q)) (m .next p) ds
-      (chain-frame m w (m .next p) ds none (λ k c. move-place m g d k (λ e. omega (arith, o p, indicator-same p, ap (λ (y : ℕ). sumOver (atPlace y) ds) e))) (s .2))
+      (chain-frame m w (m .next p) ds none
+      (λ k c. move-place m g d k (λ e. omega (arith, o p, indicator-same p, ap (λ (y : ℕ). sumOver (atPlace y) ds) e))) (s .2))
       (λ k. omega (arith, o k, sumBelow-changed 5 (λ j x. sumOver (atPlace k) x) acc q (d ∷ acc q) qb))
       (λ j jb.
       changed-all (λ (j : ℕ) (x : List Placed). Represents w (childNode g j) (leaf x)) acc q (d ∷ acc q) j
       (λ e. subst (λ (y : ℕ). Represents w (childNode g y) (leaf (d ∷ acc q))) (sym e) (
         changed-same (m .count) (childNode g q) (m .count (childNode g q) + 1) ∙ omega (arith, r q qb .0),
         subst (λ (n : ℕ). Chained w n (d ∷ acc q) none) (sym (changed-same (m .first) (childNode g q) p))
-            (chain-push m w (m .first (childNode g q)) d (acc q) none (λ k c. move-place m g d k (notin q k qb c)) (s .1) (changed-same (m .next) p (m .first (childNode g q))) (r q qb .1)),
+            (chain-push m w (m .first (childNode g q)) d (acc q) none (λ k c. move-place m g d k (notin q k qb c))
+            (s .1) (changed-same (m .next) p (m .first (childNode g q))) (r q qb .1)),
       ))
       (λ ne.
       tree-frame m w (childNode g j) (leaf (acc j))
@@ -104,7 +107,8 @@ module _ (nd : NodeData) where
       let w = takeGroup nd m b g in
       let s = deal-node w g c b nb in (
         sym (s .1) ∙ changed-same (m .count) b branchMark,
-        sym (s .0) ∙ changed-other (changed (m .first) b (childNode g 0)) (childNode g 0) none b (nb 0 (omega arith)) ∙ changed-same (m .first) b (childNode g 0) ∙ omega arith,
+        sym (s .0) ∙ changed-other (changed (m .first) b (childNode g 0)) (childNode g 0) none b (nb 0 (omega arith))
+            ∙ changed-same (m .first) b (childNode g 0) ∙ omega arith,
         deal-children w g (λ j. []) (m .first b) c
             (chain-frame m w (m .first b) c none (λ k z. (refl, refl)) (r .1))
             (λ k. omega (arith, o k))
@@ -120,7 +124,8 @@ module _ (nd : NodeData) where
             (sym (v .1) ∙ z .1, sym (v .0) ∙ z .0))),
       )
 
-  pub split-holds : (G N : ℕ) (m : Mem) (groupHead placeHead : ℕ) (t : Tree) (g : ℕ) (free spare : List ℕ) (path : List ℕ) (c : List Placed) → Children path → sub t path ≡ leaf c
+  pub split-holds : (G N : ℕ) (m : Mem) (groupHead placeHead : ℕ) (t : Tree) (g : ℕ) (free spare : List ℕ) (path : List ℕ) (c : List Placed)
+      → Children path → sub t path ≡ leaf c
       → Stored G N m groupHead placeHead t (g ∷ free) spare
       → Stored G N (splitWords nd m (nodeAt 0 t path) g c) (m .first (childNode g 0)) placeHead (put t path (splitTree nd g c)) free spare
   split-holds G N m groupHead placeHead t g free spare path c children e H =
@@ -156,5 +161,6 @@ module _ (nd : NodeData) where
             chain-frame m w placeHead (map blank spare) none
             (λ k h. deal-place (takeGroup nd m b g) g c k (omega (arith, H .placesOnce k, below-le k N, subP k))) (H .places);
         groupsOnce = λ k. omega (arith, H .groupsOnce k, sumGroups-put (indicator k) t path u children, ap (sumGroups (indicator k)) e);
-        placesOnce = λ k. omega (arith, H .placesOnce k, sumDots-put (atPlace k) t path u children, ap (sumDots (atPlace k)) e, deal-sum nd (atPlace k) (λ j. []) c);
+        placesOnce =
+            λ k. omega (arith, H .placesOnce k, sumDots-put (atPlace k) t path u children, ap (sumDots (atPlace k)) e, deal-sum nd (atPlace k) (λ j. []) c);
       }

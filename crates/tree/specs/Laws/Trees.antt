@@ -1,7 +1,7 @@
 -- A tree that stands in the rows, as the walks meet it.
 --     not-branch, is-branch        what a test for a branch says of the count
 --     node-in-row  the row has the node at which a tree stands
---     mark-no-leaf, shallow-branch     where the mark stands there is no leaf, and below a branch a level is left
+--     mark-no-leaf, shallow-branch where the mark stands there is no leaf, and below a branch a level is left
 --     root-stands, root-total      the tree of a memory stands at node 0, and its nodes are few enough to be counted
 use mathlib.Core.Path.{_≡_, ap, sym, _∙_, refl, subst}
 use mathlib.Core.List.{List, [], _∷_, map}
@@ -34,10 +34,12 @@ use Rattle.tree.specs.Trees.{NodesIn, nodeTotal, TreeStands}
 
 -- ---- what a test for a branch says of the count
 
-pub not-branch : (nodes : List ℕ) (a : ℕ) {w : Node} {b : Bool} → w ≡ nodeAt nodes a → b ≡ eqb (w .count) branchMark → not b ≡ true → countAt nodes a ≡ branchMark → ⊥
+pub not-branch : (nodes : List ℕ) (a : ℕ) {w : Node} {b : Bool} → w ≡ nodeAt nodes a → b ≡ eqb (w .count) branchMark → not b ≡ true
+    → countAt nodes a ≡ branchMark → ⊥
 not-branch nodes a {w} {b} e f n h = eqb-false (w .count) branchMark (sym f ∙ not-true b n) (ap (λ (x : Node). x .count) e ∙ h)
 
-pub is-branch : (nodes : List ℕ) (a : ℕ) {w : Node} {b : Bool} → w ≡ nodeAt nodes a → b ≡ eqb (w .count) branchMark → not b ≡ false → countAt nodes a ≡ branchMark
+pub is-branch : (nodes : List ℕ) (a : ℕ) {w : Node} {b : Bool} → w ≡ nodeAt nodes a → b ≡ eqb (w .count) branchMark → not b ≡ false
+    → countAt nodes a ≡ branchMark
 is-branch nodes a {w} {b} e f n = sym (ap (λ (x : Node). x .count) e) ∙ eqb-true (w .count) branchMark (sym f ∙ not-false b n)
 
 -- ---- what a walk uses of the tree at a node
@@ -98,7 +100,13 @@ nodes-all x v =
     byDec (decLt k n)
     (λ h. omega (arith, c, below-yes k n h, nodes-once x v k, node-there x v k h))
     (λ h. byDec (decLt 0 (sumOver (nodeIs k) es)) (λ s. absurd (h (node-range x v k s))) (λ s. omega (arith, c, below-no k n (omega arith)))) in
-    omega (arith, once-length n (map (λ e. e .node) es) each, sumOver-one (map (λ (e : NodeEntry). e .node) es), sumOver-map (λ k. 1) (λ (e : NodeEntry). e .node) es, sumOver-one es)
+    omega (
+      arith,
+      once-length n (map (λ e. e .node) es) each,
+      sumOver-one (map (λ (e : NodeEntry). e .node) es),
+      sumOver-map (λ k. 1) (λ (e : NodeEntry). e .node) es,
+      sumOver-one es,
+    )
 
 -- ---- the root
 

@@ -11,7 +11,7 @@ use lib.IntN.{ℤ}
 use lib.ListN.{length}
 use Rattle.arithmetic.specs.Tests.{byBool}
 use Rattle.model.specs.Sums.{indicator, sumBelow}
-use Rattle.model.specs.Laws.Sums.{sumBelow-le, sumBelow-term}
+use Rattle.model.specs.Laws.Sums.{sumBelow-le, sumBelow-term, sumBelow-last}
 use Rattle.model.specs.Trees.{Tree, leaf, branch, childNode}
 use Rattle.model.specs.Cleanup.{allEmpty, freedBy, turned}
 use Rattle.memory.specs.Rows.{HasNode}
@@ -65,9 +65,6 @@ module _ (left : ℕ) (some : left ≡ 0 → ⊥) where
   left-is : left ≡ suc (left - 1)
   left-is = omega arith
 
-  sum-last : (h : ℕ → ℕ) → sumBelow left h ≡ sumBelow (left - 1) h + h (left - 1)
-  sum-last h = ap (λ (k : ℕ). sumBelow k h) left-is
-
   before-last : {g : ℕ} {f : ℕ → Tree} {s : Walk} {free : List ℕ} → ChildrenAndFree g f left s free → ChildrenAndFree g f (suc (left - 1)) s free
   before-last {g} {f} {s} {free} w = subst (λ (k : ℕ). ChildrenAndFree g f k s free) left-is w
 
@@ -91,7 +88,7 @@ module _ (nodes : List ℕ) (swept : Swept) (first levels left : ℕ) (some : le
         free = w .free;
         stands = rw at (last-stands (before-last left some (w .stands)));
         fits = rw at (w .fits i (omega arith));
-        small = omega (arith, w .small, sum-last left some (λ j. nodeTotal (w .children j)));
+        small = omega (arith, w .small, sumBelow-last left some (λ j. nodeTotal (w .children j)));
       }
 
   pub last-in : GroupToClean nodes swept first levels left → HasNode nodes (first + (left - 1))
@@ -127,7 +124,7 @@ module _ (nodes : List ℕ) (swept : Swept) (first levels left : ℕ) (some : le
           most = omega (arith, w .most);
           stands = others-left (w .dots) (w .rects) (w .head) (w .stands) last;
           fits = λ j b. fits-same nodes nodes₁ same levels (childNode (w .group) j) (w .children j) (w .fits j (omega arith));
-          small = omega (arith, w .small, sum-last left some (λ j. nodeTotal (w .children j)), c .more, turned-total (w .children i));
+          small = omega (arith, w .small, sumBelow-last left some (λ j. nodeTotal (w .children j)), c .more, turned-total (w .children i));
         }
 
     pub group-cleaned : (nodes₂ : List ℕ) (r : Swept) → GroupCleaned nodes₁ next first levels (left - 1) nodes₂ r
@@ -144,5 +141,5 @@ module _ (nodes : List ℕ) (swept : Swept) (first levels left : ℕ) (some : le
         ap (λ (k : ℕ). cleanChildren g f k start) (left-is left some) in
         record {
           walk = d .walk ∙ ap (cleanChildren g f i) (c .walk) ∙ sym all;
-          more = omega (arith, d .more, c .more, sum-last left some (λ j. turned (f j)));
+          more = omega (arith, d .more, c .more, sumBelow-last left some (λ j. turned (f j)));
         }

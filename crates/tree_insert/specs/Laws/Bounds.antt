@@ -1,6 +1,6 @@
 -- The dots of a chain that lie within the bounds of a node.
---     deal-pick            what the deal gives a child, as a sum over the dealt chain
---     Chosen               a chain whose every sum is that of the dots within bounds
+--     deal-pick    what the deal gives a child, as a sum over the dealt chain
+--     Chosen       a chain whose every sum is that of the dots within bounds
 --     all-chosen, child-chosen     within no bounds all are; within a child's bounds those within the parent's that go to it
 use mathlib.Core.Path.{_≡_, ap, sym, refl}
 use mathlib.Core.List.{List, [], _∷_}
@@ -63,8 +63,10 @@ all-chosen s [] a h = refl
 all-chosen s (d ∷ ds) a h = rw (bounds-all (d .dot .rect) (upright s (d .dot .rect) (a .0) .1)) (ap (λ (k : ℕ). h d + k) (all-chosen s ds (a .1) h))
 
 -- the dots within a child's bounds are those within the parent's that go to it
-pub child-chosen : (s : Settings) (b : Bounds) (n : NodeData) (i : ℕ) → 1 ≤ i → i < 5 → (h : Placed → ℕ) (ds : List Placed) → All (λ d. acceptableDot s (d .dot) ≡ true) ds
-    → sumOver (λ d. cond (inBounds b (d .dot .rect)) (cond (eqb (routeDot n d) i) (h d) 0) 0) ds ≡ sumOver (λ d. cond (inBounds (boundsBelow b (n .cell) i) (d .dot .rect)) (h d) 0) ds
+pub child-chosen : (s : Settings) (b : Bounds) (n : NodeData) (i : ℕ) → 1 ≤ i → i < 5 → (h : Placed → ℕ) (ds : List Placed)
+    → All (λ d. acceptableDot s (d .dot) ≡ true) ds
+    → sumOver (λ d. cond (inBounds b (d .dot .rect)) (cond (eqb (routeDot n d) i) (h d) 0) 0) ds
+    ≡ sumOver (λ d. cond (inBounds (boundsBelow b (n .cell) i) (d .dot .rect)) (h d) 0) ds
 unfolding acceptableDot
 child-chosen s b n i one five h [] a = refl
 child-chosen s b n i one five h (d ∷ ds) a =

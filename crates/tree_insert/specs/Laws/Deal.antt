@@ -1,14 +1,16 @@
 -- The deal of a chain to the children of a group.
---     linked-read          a place put at the head of a leaf's chain
---     deal-turn, deal-on   one turn of the loop
---     deal-over    its end
+--     linked-read  a place put at the head of a leaf's chain
+--     deal-turn    one turn of the loop, on the words
+--     Dealing, deal-start, deal-place, deal-child, deal-on, deal-over      its invariant, begin, what a turn asks, a turn, its end
 use mathlib.Core.Path.{_≡_, ap, sym, _∙_, subst, refl}
 use mathlib.Core.List.{List, [], _∷_}
+use mathlib.Core.Bool.{false}
 use Prim.Native.Nat.{ℕ, _+_, _-_, _≤_, _<_}
 use native.Mathlib.Omega.{arith}
 use lib.IntN.{ℤ}
+use lib.ListN.{length}
 use Rattle.geometry.specs.declared.node_data.NodeData.{NodeData}
-use Rattle.geometry.specs.Cells.{routeCell, route}
+use Rattle.geometry.specs.Cells.{routeCell}
 use Rattle.geometry.specs.Laws.Geometry.{route-child}
 use Rattle.geometry.specs.declared.aabb.AABB.{AABB}
 use Rattle.geometry.specs.declared.centered_aabb.CenteredAABB.{CenteredAABB}
@@ -23,16 +25,18 @@ use Rattle.memory.specs.Rows.{HasNode, HasPlace, setNodeAt, setNextAt, HasRect}
 use Rattle.memory.specs.Laws.Stores.{next-length, next-set, id-next, node-length, count-set}
 use Rattle.tree.specs.Stores.{setNext}
 use Rattle.tree.specs.Chains.{ChainStands}
+use Rattle.tree.specs.Laws.Chains.{stands-here}
 use Rattle.tree.specs.Laws.Readings.{setNode, node-stored, next-stored}
 use Rattle.tree.specs.Splits.{dealWords}
-use Rattle.tree_insert.specs.Deal.{Dealable}
+use Rattle.tree_insert.specs.Deal.{Dealable, Dealt}
 
 -- a place is put at the head of a leaf's chain
 abbrev pub linkWords : Mem → ℕ → ℕ → Mem
 linkWords m a p = setNode (setNext m p (m .first a)) a (record { first = p; count = m .count a + 1 })
 
 pub linked-read : (nodes dots : List ℕ) (rects : List ℤ) (a p : ℕ) → HasNode nodes a → HasPlace dots p
-    → read (setNodeAt nodes a (record { first = p; count = countAt nodes a + 1 })) (setNextAt dots p (firstAt nodes a)) rects ≡ linkWords (read nodes dots rects) a p
+    → read (setNodeAt nodes a (record { first = p; count = countAt nodes a + 1 })) (setNextAt dots p (firstAt nodes a)) rects
+    ≡ linkWords (read nodes dots rects) a p
 linked-read nodes dots rects a p hn hp =
     let v : Node = record { first = p; count = countAt nodes a + 1 } in
     node-stored nodes (setNextAt dots p (firstAt nodes a)) rects a v hn
@@ -51,29 +55,13 @@ stands-frame dots rects p v h n (d ∷ ds) hp z s =
       s .2,
       (λ i. record { id = ids i; rect = rectAt rects h }) ∙ s .3,
       s .4,
-      subst (λ (y : ℕ). ChainStands (setNextAt dots p v) rects y (n - 1) ds) (sym other) (stands-frame dots rects p v (nextAt dots h) (n - 1) ds hp (omega arith) (s .5)),
+      subst (λ (y : ℕ). ChainStands (setNextAt dots p v) rects y (n - 1) ds) (sym other)
+          (stands-frame dots rects p v (nextAt dots h) (n - 1) ds hp (omega arith) (s .5)),
     )
 
 -- ---- a turn
 
 module _ (nodes dots : List ℕ) (rects : List ℤ) (n : NodeData) (first at left : ℕ) (some : 1 ≤ left) where
-  -- what the turn asks, of the child that the place's rectangle goes to
-  pub record Turn (child : ℕ) : Type 0 where
-    pub place : HasPlace dots at
-    pub rect : HasRect rects at
-    pub child5 : child < 5
-    pub node : HasNode nodes (first + child)
-    pub count : countAt nodes (first + child) + left ≤ 65536
-
-  pub deal-asks : (s : Dealable nodes dots rects first at left) → Turn (routeCell (n .cell) (rectAt rects at))
-  deal-asks s = go (s .chain) (s .stands)
-    where
-      go : (ds : List Placed) → ChainStands dots rects at left ds → Turn (routeCell (n .cell) (rectAt rects at))
-      go [] g = absurd (omega arith)
-      go (d ∷ ds) g =
-          let i = route-child n (rectAt rects at) in
-          record { place = g .1; rect = g .2; child5 = i; node = omega (arith, s .nodesIn); count = s .small (route n (rectAt rects at)) i }
-
   abbrev nodes₁ : ℕ → List ℕ
   nodes₁ child = setNodeAt nodes (first + child) (record { first = at; count = countAt nodes (first + child) + 1 })
 
@@ -86,7 +74,8 @@ module _ (nodes dots : List ℕ) (rects : List ℤ) (n : NodeData) (first at lef
       × (dealWords n (read (nodes₁ child) (dots₁ child) rects) (r .group) (r .chain) ≡ dealWords n (read nodes dots rects) (s .group) (s .chain))
   deal-turn s = go (s .chain) (s .stands) (s .once)
     where
-      go : (ds : List Placed) → ChainStands dots rects at left ds → ((k : ℕ) → sumOver (atPlace k) ds ≤ 1) → let child = routeCell (n .cell) (rectAt rects at) in
+      go : (ds : List Placed) → ChainStands dots rects at left ds → ((k : ℕ) → sumOver (atPlace k) ds ≤ 1) → let child =
+          routeCell (n .cell) (rectAt rects at) in
           (r : Dealable (nodes₁ child) (dots₁ child) rects first (nextAt dots at) (left - 1))
           × (dealWords n (read (nodes₁ child) (dots₁ child) rects) (r .group) (r .chain) ≡ dealWords n (read nodes dots rects) (s .group) ds)
       go [] g o = absurd (omega arith)
@@ -118,35 +107,68 @@ module _ (nodes dots : List ℕ) (rects : List ℤ) (n : NodeData) (first at lef
                 (linked-read nodes dots rects b at hn (g .1) ∙ (λ k. linkWords (read nodes dots rects) (to k) (g .0 k))),
           )
 
+-- ---- the loop
+
 -- what is left to deal is what there was to deal
-abbrev pub Dealing : List ℕ → List ℕ → List ℤ → CenteredAABB → ℕ → ℕ → ℕ → List ℕ → List ℕ → ℕ → ℕ → Type 0
-Dealing nodes₀ dots₀ rects cell first at₀ left₀ nodes dots at left =
-    (n : NodeData) → n .cell ≡ cell → (s : Dealable nodes₀ dots₀ rects first at₀ left₀)
-    → (r : Dealable nodes dots rects first at left) × (dealWords n (read nodes dots rects) (r .group) (r .chain) ≡ dealWords n (read nodes₀ dots₀ rects) (s .group) (s .chain))
+pub record Dealing (nodes₀ dots₀ : List ℕ) (rects : List ℤ) (cell : CenteredAABB) (first at₀ left₀ : ℕ) (nodes dots : List ℕ) (at left : ℕ) : Type 0 where
+  pub nodesKept : length nodes ≡ length nodes₀
+  pub dotsKept : length dots ≡ length dots₀
+  pub rest : (n : NodeData) → n .cell ≡ cell → (s : Dealable nodes₀ dots₀ rects first at₀ left₀)
+      → (r : Dealable nodes dots rects first at left)
+      × (dealWords n (read nodes dots rects) (r .group) (r .chain) ≡ dealWords n (read nodes₀ dots₀ rects) (s .group) (s .chain))
 
--- the same, of the values that the code has
-pub deal-on : (nodes₀ dots₀ : List ℕ) (rects : List ℤ) (cell : CenteredAABB) (first at₀ left₀ : ℕ) (nodes dots : List ℕ) (at left : ℕ)
-    → Dealing nodes₀ dots₀ rects cell first at₀ left₀ nodes dots at left → 1 ≤ left → (rect : AABB) (child next : ℕ) (nodes′ dots′ : List ℕ)
-    → rect ≡ rectAt rects at → child ≡ routeCell cell rect → next ≡ nextAt dots at
-    → nodes′ ≡ setNodeAt nodes (first + child) (record { first = at; count = countAt nodes (first + child) + 1 }) → dots′ ≡ setNextAt dots at (firstAt nodes (first + child))
-    → Dealing nodes₀ dots₀ rects cell first at₀ left₀ nodes′ dots′ next (left - 1)
-deal-on nodes₀ dots₀ rects cell first at₀ left₀ nodes dots at left going some rect child next nodes′ dots′ er ec ex en ed n e s =
-    let now = going n e s in
-    let turn = deal-turn nodes dots rects n first at left some (now .0) in
-    let to : routeCell (n .cell) (rectAt rects at) ≡ child = (λ i. routeCell (e i) (sym er i)) ∙ sym ec in
-    let node : ℕ → List ℕ = λ k. setNodeAt nodes (first + k) (record { first = at; count = countAt nodes (first + k) + 1 }) in
-    let link : ℕ → List ℕ = λ k. setNextAt dots at (firstAt nodes (first + k)) in
-    let goal : List ℕ → List ℕ → ℕ → Type 0 = λ x y z.
-    (r : Dealable x y rects first z (left - 1)) × (dealWords n (read x y rects) (r .group) (r .chain) ≡ dealWords n (read nodes₀ dots₀ rects) (s .group) (s .chain)) in
-    subst (λ (z : ℕ). goal nodes′ dots′ z) (sym ex)
-    (subst (λ (y : List ℕ). goal nodes′ y (nextAt dots at)) (ap link to ∙ sym ed)
-    (subst (λ (x : List ℕ). goal x (link (routeCell (n .cell) (rectAt rects at))) (nextAt dots at)) (ap node to ∙ sym en)
-    (turn .0, turn .1 ∙ now .1)))
+pub deal-start : {nodes dots : List ℕ} {rects : List ℤ} {cell : CenteredAABB} {first at left : ℕ}
+    → Dealing nodes dots rects cell first at left nodes dots at left
+deal-start = record { nodesKept = refl; dotsKept = refl; rest = λ n e s. (s, refl) }
 
-pub deal-over : (nodes dots : List ℕ) (rects : List ℤ) (n : NodeData) (first at : ℕ) (left : ℕ) → left ≡ 0 → (s : Dealable nodes dots rects first at left)
-    → dealWords n (read nodes dots rects) (s .group) (s .chain) ≡ read nodes dots rects
-deal-over nodes dots rects n first at left e s = go (s .chain) (s .stands)
-  where
-    go : (ds : List Placed) → ChainStands dots rects at left ds → dealWords n (read nodes dots rects) (s .group) ds ≡ read nodes dots rects
-    go [] g = refl
-    go (d ∷ ds) g = absurd (omega (arith, g .4))
+module _ {nodes₀ dots₀ : List ℕ} {rects : List ℤ} {cell : CenteredAABB} {first at₀ left₀ : ℕ} {nodes dots : List ℕ} {at left : ℕ}
+    (dealing : Dealing nodes₀ dots₀ rects cell first at₀ left₀ nodes dots at left) where
+  -- a node with the cell
+  abbrev with-cell : NodeData
+  with-cell = record { cell = cell; depth = 0; «is_child_0» = false }
+
+  pub deal-over : left ≤ 0 → Dealt nodes₀ dots₀ rects cell first at₀ left₀ nodes dots
+  deal-over e n ec s = let r = dealing .rest n ec s in sym (go (r .0) (r .0 .chain) (r .0 .stands)) ∙ r .1
+    where
+      go : (r : Dealable nodes dots rects first at left) (ds : List Placed) → ChainStands dots rects at left ds
+          → dealWords n (read nodes dots rects) (r .group) ds ≡ read nodes dots rects
+      go r [] g = refl
+      go r (d ∷ ds) g = absurd (omega (arith, g .4))
+
+  module _ (some : 1 ≤ left) where
+    pub deal-place : Dealable nodes₀ dots₀ rects first at₀ left₀ → HasPlace dots at × HasRect rects at
+    deal-place given = let r = dealing .rest with-cell refl given .0 in stands-here dots rects at left (r .chain) (r .stands) some
+
+    module _ {rect : AABB} {child : ℕ} (er : rect ≡ rectAt rects at) (ec : child ≡ routeCell cell rect) where
+      to : routeCell cell (rectAt rects at) ≡ child
+      to = ap (routeCell cell) (sym er) ∙ sym ec
+
+      -- what a turn asks, of the child that the rectangle goes to
+      pub deal-child : Dealable nodes₀ dots₀ rects first at₀ left₀ → (child < 5) × HasNode nodes (first + child) × (countAt nodes (first + child) < 4294967295)
+      deal-child given =
+          let r = dealing .rest with-cell refl given .0 in
+          let five : child < 5 = omega (arith, to, route-child with-cell (rectAt rects at)) in
+          (five, omega (arith, r .nodesIn), omega (arith, r .small child five))
+
+      pub deal-on : {next : ℕ} {nodes′ dots′ : List ℕ} → next ≡ nextAt dots at
+          → nodes′ ≡ setNodeAt nodes (first + child) (record { first = at; count = countAt nodes (first + child) + 1 })
+          → dots′ ≡ setNextAt dots at (firstAt nodes (first + child))
+          → Dealing nodes₀ dots₀ rects cell first at₀ left₀ nodes′ dots′ next (left - 1)
+      deal-on {next} {nodes′} {dots′} ex en ed =
+          record {
+            nodesKept = ap length en ∙ node-length nodes (first + child) _ ∙ dealing .nodesKept;
+            dotsKept = ap length ed ∙ next-length dots at (firstAt nodes (first + child)) ∙ dealing .dotsKept;
+            rest = λ n e s.
+                let now = dealing .rest n e s in
+                let turn = deal-turn nodes dots rects n first at left some (now .0) in
+                let there : routeCell (n .cell) (rectAt rects at) ≡ child = ap (λ (y : CenteredAABB). routeCell y (rectAt rects at)) e ∙ to in
+                let node : ℕ → List ℕ = λ k. setNodeAt nodes (first + k) (record { first = at; count = countAt nodes (first + k) + 1 }) in
+                let link : ℕ → List ℕ = λ k. setNextAt dots at (firstAt nodes (first + k)) in
+                let goal : List ℕ → List ℕ → ℕ → Type 0 = λ x y z.
+                (r : Dealable x y rects first z (left - 1))
+                × (dealWords n (read x y rects) (r .group) (r .chain) ≡ dealWords n (read nodes₀ dots₀ rects) (s .group) (s .chain)) in
+                subst (λ (z : ℕ). goal nodes′ dots′ z) (sym ex)
+                (subst (λ (y : List ℕ). goal nodes′ y (nextAt dots at)) (ap link there ∙ sym ed)
+                (subst (λ (x : List ℕ). goal x (link (routeCell (n .cell) (rectAt rects at))) (nextAt dots at)) (ap node there ∙ sym en)
+                (turn .0, turn .1 ∙ now .1)));
+          }

@@ -1,7 +1,9 @@
 -- The walk along the free groups.
---     free-on, free-short, free-enough     a turn of the walk, and the two ways out of it
+--     Walking      its invariant: what is wanted from here on is there if the whole is
+--     walk-start, walk-here, walk-on       its begin; the next group is there; a turn
+--     walk-short, walk-enough      the two ways out of it
 --     groups-free  the free groups of a stored tree
-use mathlib.Core.Path.{_≡_, sym, _∙_, subst, ap}
+use mathlib.Core.Path.{_≡_, refl, ap, sym, _∙_, subst}
 use mathlib.Core.List.{List, [], _∷_}
 use mathlib.Core.Bool.{true, false}
 use Prim.Native.Nat.{ℕ, suc, _-_, _≤_, _+_, _*_, _<_}
@@ -15,41 +17,50 @@ use Rattle.model.specs.Memory.{firstAt, Mem, FreeGroups}
 use Rattle.model.specs.Sums.{indicator, sumOver}
 use Rattle.model.specs.Laws.Sums.{indicator-same}
 use Rattle.model.specs.Trees.{childNode}
+use Rattle.memory.specs.declared.node.Node.{Node}
+use Rattle.memory.specs.Nodes.{nodeAt}
 use Rattle.memory.specs.Rows.{HasNode}
-use Rattle.tree_insert.specs.FreeGroups.{FreeIn}
+use Rattle.tree_insert.specs.FreeGroups.{FreeIn, SomeFree}
 
-module _ (nodes : List ℕ) where
-  -- the walk from h₀, which wanted n₀ groups, is at h and wants n more
-  abbrev pub Walking : ℕ → ℕ → ℕ → ℕ → Type 0
-  Walking h₀ n₀ h n = (free : List ℕ) → FreeIn nodes h₀ free → (rest : List ℕ) × FreeIn nodes h rest × (leb n₀ (length free) ≡ leb n (length rest))
+-- the walk from a head, which wanted so many groups, is at a group and wants so many more
+pub record Walking (nodes : List ℕ) (head wanted at left : ℕ) : Type 0 where
+  pub rest : (free : List ℕ) → FreeIn nodes head free → (rest : List ℕ) × FreeIn nodes at rest × (leb wanted (length free) ≡ leb left (length rest))
 
-  pub free-here : (h : ℕ) (free : List ℕ) → FreeIn nodes h free → ¬ (h ≡ none) → HasNode nodes h
-  free-here h [] f ne = absurd (ne f)
-  free-here h (g ∷ gs) f ne = f .1
+pub walk-start : {nodes : List ℕ} {head wanted : ℕ} → Walking nodes head wanted head wanted
+walk-start = record { rest = λ free f. (free, f, refl) }
 
-  pub free-on : (h₀ n₀ h n h′ : ℕ) → Walking h₀ n₀ h n → 1 ≤ n → ¬ (h ≡ none) → h′ ≡ firstAt nodes h → Walking h₀ n₀ h′ (n - 1)
-  free-on h₀ n₀ h n h′ w some ne e free l = go (w free l .0) (w free l .1) (w free l .2)
+module _ {nodes : List ℕ} {head wanted at left : ℕ} (w : Walking nodes head wanted at left) where
+  pub walk-here : SomeFree nodes head → ¬ (at ≡ none) → HasNode nodes at
+  walk-here some ne = go (w .rest (some .free) (some .listed) .0) (w .rest (some .free) (some .listed) .1)
     where
-      go : (rest : List ℕ) → FreeIn nodes h rest → leb n₀ (length free) ≡ leb n (length rest)
-          → (rest : List ℕ) × FreeIn nodes h′ rest × (leb n₀ (length free) ≡ leb (n - 1) (length rest))
-      go [] f q = absurd (ne f)
-      go (g ∷ gs) f q =
+      go : (rest : List ℕ) → FreeIn nodes at rest → HasNode nodes at
+      go [] f = absurd (ne f)
+      go (g ∷ gs) f = f .1
+
+  pub walk-on : 1 ≤ left → ¬ (at ≡ none) → {node : Node} → node ≡ nodeAt nodes at → Walking nodes head wanted (node .first) (left - 1)
+  walk-on some ne {node} e = record { rest = λ free l. go free (w .rest free l .0) (w .rest free l .1) (w .rest free l .2) }
+    where
+      go : (free rest : List ℕ) → FreeIn nodes at rest → leb wanted (length free) ≡ leb left (length rest)
+          → (rest : List ℕ) × FreeIn nodes (node .first) rest × (leb wanted (length free) ≡ leb (left - 1) (length rest))
+      go free [] f q = absurd (ne f)
+      go free (g ∷ gs) f q =
           let k = length gs in
-          let one : leb n (suc k) ≡ leb (n - 1) k =
-          same-test (leb n (suc k)) (leb (n - 1) k) (λ t. le-leb (n - 1) k (omega (arith, leb-true n (suc k) t))) (λ t. le-leb n (suc k) (omega (arith, leb-true (n - 1) k t))) in
-          (gs, subst (λ (y : ℕ). FreeIn nodes y gs) (sym e) (f .2), q ∙ one)
+          let one : leb left (suc k) ≡ leb (left - 1) k =
+          same-test (leb left (suc k)) (leb (left - 1) k)
+          (λ t. le-leb (left - 1) k (omega (arith, leb-true left (suc k) t))) (λ t. le-leb left (suc k) (omega (arith, leb-true (left - 1) k t))) in
+          (gs, subst (λ (y : ℕ). FreeIn nodes y gs) (sym (ap (λ (v : Node). v .first) e)) (f .2), q ∙ one)
 
   -- the list ends while some are wanted
-  pub free-short : (h₀ n₀ h n : ℕ) → Walking h₀ n₀ h n → 1 ≤ n → h ≡ none → (free : List ℕ) → FreeIn nodes h₀ free → false ≡ leb n₀ (length free)
-  free-short h₀ n₀ h n w some e free l = go (w free l .0) (w free l .1) (w free l .2)
+  pub walk-short : 1 ≤ left → at ≡ none → (free : List ℕ) → FreeIn nodes head free → false ≡ leb wanted (length free)
+  walk-short some e free l = go (w .rest free l .0) (w .rest free l .1) (w .rest free l .2)
     where
-      go : (rest : List ℕ) → FreeIn nodes h rest → leb n₀ (length free) ≡ leb n (length rest) → false ≡ leb n₀ (length free)
-      go [] f q = sym (q ∙ lt-leb n 0 some)
+      go : (rest : List ℕ) → FreeIn nodes at rest → leb wanted (length free) ≡ leb left (length rest) → false ≡ leb wanted (length free)
+      go [] f q = sym (q ∙ lt-leb left 0 some)
       go (g ∷ gs) f q = absurd (f .0 e)
 
   -- none is wanted any more
-  pub free-enough : (h₀ n₀ h n : ℕ) → Walking h₀ n₀ h n → n ≡ 0 → (free : List ℕ) → FreeIn nodes h₀ free → true ≡ leb n₀ (length free)
-  free-enough h₀ n₀ h n w e free l = let r = w free l in sym (r .2 ∙ le-leb n (length (r .0)) (omega arith))
+  pub walk-enough : left ≤ 0 → (free : List ℕ) → FreeIn nodes head free → true ≡ leb wanted (length free)
+  walk-enough none-left free l = let r = w .rest free l in sym (r .2 ∙ le-leb left (length (r .0)) (omega arith))
 
 -- ---- the free groups of the memory
 

@@ -3,7 +3,7 @@
 --     countable    the splits can be counted there
 --     needed-is    what is counted is the splits needed
 --     listed-free, enough-is       the free groups can be walked along, and are told to be enough
---     inserting-start     the insert is on its way
+--     inserting-start      the insert is on its way
 use mathlib.Core.Path.{_≡_, refl, ap, sym, _∙_, subst}
 use mathlib.Core.List.{List}
 use mathlib.Core.Bool.{Bool}
@@ -45,7 +45,7 @@ use Rattle.tree.specs.Laws.Leaves.{here-sum, here-count, here-stands, leads-lea
 use Rattle.tree_insert.specs.FreeGroups.{FreeIn, SomeFree}
 use Rattle.tree_insert.specs.Laws.FreeGroups.{groups-free}
 use Rattle.tree_insert.specs.SplitsNeeded.{Countable, Needed}
-use Rattle.tree_insert.specs.SplitDown.{ended, Inserting}
+use Rattle.tree_insert.specs.SplitDown.{Ended, ended, Inserting}
 
 -- ---- the leaf on the tree
 
@@ -67,11 +67,13 @@ module _ (s : Settings) (d : Placed) (free : List ℕ) where
   pub record Arrived (levels : ℕ) (n : NodeData) (a : ℕ) (t : Tree) : Type 0 where
     pub left : ℕ
     pub high : levelsLeft s (leafFor (d .dot .rect) n a t .«node_data») ≤ left
-    pub counts : splitCount s levels n (d .dot .rect) t ≡ splitCount s left (leafFor (d .dot .rect) n a t .«node_data») (d .dot .rect) (leaf (chainFor (d .dot .rect) n t))
+    pub counts : splitCount s levels n (d .dot .rect) t
+        ≡ splitCount s left (leafFor (d .dot .rect) n a t .«node_data») (d .dot .rect) (leaf (chainFor (d .dot .rect) n t))
     pub grows : insertAt s levels n d t free
         ≡ grownThere n t (insertAt s left (leafFor (d .dot .rect) n a t .«node_data») d (leaf (chainFor (d .dot .rect) n t)) free)
 
-  arrive : 1 ≤ s .«smallest_cell» → (levels : ℕ) (n : NodeData) (a : ℕ) (t : Tree) → Shallow levels t → WellFormed s n t → levelsLeft s n ≤ levels → Arrived levels n a t
+  arrive : 1 ≤ s .«smallest_cell» → (levels : ℕ) (n : NodeData) (a : ℕ) (t : Tree) → Shallow levels t → WellFormed s n t → levelsLeft s n ≤ levels
+      → Arrived levels n a t
   arrive one levels n a (leaf chain) flat v high = record { left = levels; high = high; counts = refl; grows = refl }
   arrive one zero n a (branch g f) flat v high = absurd flat
   arrive one (suc levels) n a (branch g f) flat v high =
@@ -87,8 +89,8 @@ module _ (s : Settings) (d : Placed) (free : List ℕ) where
 
 -- ---- the leaf in the rows
 
-module _ (s : State) (nodes dots : List ℕ) (rects : List ℤ) (marks : List ℕ) (x : Shape) (h : Holds (world s nodes dots rects marks) x) (dot : Dot) (l : Leaf)
-    (leads : LeadsTo (s .settings) nodes (dot .rect) l) where
+module _ {s : State} {nodes dots : List ℕ} {rects : List ℤ} {marks : List ℕ} {x : Shape} (h : Holds (world s nodes dots rects marks) x)
+    (dot : Dot) {l : Leaf} (leads : LeadsTo (s .settings) nodes (dot .rect) l) where
   abbrev w₀ : World
   w₀ = world s nodes dots rects marks
 
@@ -114,7 +116,7 @@ module _ (s : State) (nodes dots : List ℕ) (rects : List ℤ) (marks : List �
   short = omega (arith, here-sum h (dot .rect) (λ d. 1), sumOver-one chain₀, live-and-free x (h .valid), h .valid .placesFit)
 
   -- the count of its splits
-  module _ (node : Node) (words : node ≡ nodeAt nodes (l .node)) where
+  module _ {node : Node} (words : node ≡ nodeAt nodes (l .node)) where
     counted : (k : Countable (x .settings) dots rects (nodeAt nodes (l₀ .node)) (l₀ .«node_data»)) × (k .chain ≡ chain₀)
     counted = (
       record {
@@ -138,11 +140,13 @@ module _ (s : State) (nodes dots : List ℕ) (rects : List ℤ) (marks : List �
     pub countable : Countable (s .settings) dots rects node (l .«node_data»)
     countable = here-counted .0
 
-    pub needed-is : (splits : ℕ) → Needed (s .settings) dots rects node (l .«node_data») (dot .rect) splits → splits ≡ splitsNeeded dot x
-    needed-is splits needs =
+    pub needed-is : {splits : ℕ} → Needed (s .settings) dots rects node (l .«node_data») (dot .rect) splits → splits ≡ splitsNeeded dot x
+    needed-is needs =
         let e = holds-settings w₀ x h in
         let a = arrived in
-        needs (here-counted .0) (a .left) (subst (λ (y : Leaf). levelsLeft (s .settings) (y .«node_data») ≤ a .left) (sym at-leaf) (subst (λ (y : Settings). levelsLeft y (l₀ .«node_data») ≤ a .left) (sym e) (a .high)))
+        needs (here-counted .0) (a .left)
+        (subst (λ (y : Leaf). levelsLeft (s .settings) (y .«node_data») ≤ a .left) (sym at-leaf)
+        (subst (λ (y : Settings). levelsLeft y (l₀ .«node_data») ≤ a .left) (sym e) (a .high)))
         ∙ (λ i. splitCount (e i) (a .left) (at-leaf i .«node_data») (dot .rect) (leaf (here-counted .1 i))) ∙ sym (a .counts) ∙ sym (needed-count dot x)
 
   -- the free groups
@@ -155,17 +159,19 @@ module _ (s : State) (nodes dots : List ℕ) (rects : List ℤ) (marks : List �
   pub listed-free : SomeFree nodes (s .«free_group»)
   listed-free = record { free = x .freeGroups; listed = groups-listed }
 
-  pub enough-is : (splits : ℕ) (told : Bool) → ((free : List ℕ) → FreeIn nodes (s .«free_group») free → told ≡ leb splits (length free)) → told ≡ leb splits (length (x .freeGroups))
-  enough-is splits told tells = tells (x .freeGroups) groups-listed
+  pub enough-is : (splits : ℕ) {told : Bool} → ((free : List ℕ) → FreeIn nodes (s .«free_group») free → told ≡ leb splits (length free))
+      → told ≡ leb splits (length (x .freeGroups))
+  enough-is splits tells = tells (x .freeGroups) groups-listed
 
-  pub inserting-start : (splits : ℕ) → splits ≡ splitsNeeded dot x → splits ≤ length (x .freeGroups)
+  pub inserting-start : {splits : ℕ} → splits ≡ splitsNeeded dot x → splits ≤ length (x .freeGroups)
       → Inserting x dot (s .«free_place») nodes dots rects (s .«free_group») (l .node) (l .«node_data») splits
-  inserting-start splits e enough =
+  inserting-start {splits} e enough =
       let rep = holds-represented w₀ x h in
       let a = arrived in
       let r = dot .rect in
       let d = placedIn dot x in
       let path = pathTo r (root x) (x .tree) in
+      let there : Grown → Ended = λ y. record { tree = put (x .tree) path (y .tree); free = y .free } in
       subst (λ (y : Leaf). Inserting x dot (s .«free_place») nodes dots rects (s .«free_group») (y .node) (y .«node_data») splits) (sym at-leaf)
       (record {
         tree = x .tree;
@@ -186,6 +192,6 @@ module _ (s : State) (nodes dots : List ℕ) (rects : List ℤ) (marks : List �
         short = short;
         range = in-range;
         ends =
-            ap (λ (u : Tree). let y = insertAt (x .settings) (a .left) (l₀ .«node_data») d u (x .freeGroups) in record { tree = put (x .tree) path (y .tree); free = y .free })
-            (path-sub r (root x) (x .tree)) ∙ sym (ap ended (a .grows));
+            ap (λ (u : Tree). there (insertAt (x .settings) (a .left) (l₀ .«node_data») d u (x .freeGroups))) (path-sub r (root x) (x .tree))
+            ∙ sym (ap ended (a .grows));
       })

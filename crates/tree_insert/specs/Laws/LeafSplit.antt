@@ -1,5 +1,5 @@
 -- The split of a leaf.
---     taken-read           a leaf becomes a branch on a free group
+--     taken-read   a leaf becomes a branch on a free group
 --     split-deals, split-done      the chain can be dealt then, and the deal ends the split
 --     stored-splittable    a leaf of a stored tree can be split, where a group is free
 use mathlib.Core.List.{List, _∷_}
@@ -39,7 +39,7 @@ use Rattle.tree_insert.specs.LeafSplit.{Splittable}
 abbrev pub takenNodes : List ℕ → ℕ → ℕ → List ℕ
 takenNodes nodes node first = setNodeAt (setNodeAt nodes node (record { first = first; count = branchMark })) first emptyLeaf
 
-module _ (nodes dots : List ℕ) (rects : List ℤ) (node first : ℕ) (s : Splittable nodes dots rects node first) where
+module _ {nodes dots : List ℕ} {rects : List ℤ} {node first : ℕ} (s : Splittable nodes dots rects node first) where
   taken-length : length (takenNodes nodes node first) ≡ length nodes
   taken-length =
       let v : Node = record { first = first; count = branchMark } in
@@ -53,7 +53,8 @@ module _ (nodes dots : List ℕ) (rects : List ℤ) (node first : ℕ) (s : Spli
   taken-count j l =
       let v : Node = record { first = first; count = branchMark } in
       let a : countAt (setNodeAt nodes node v) (first + j) ≡ countAt nodes (first + j) =
-      ap (λ (f : ℕ → ℕ). f (first + j)) (count-set nodes node v (s .here)) ∙ changed-other (countAt nodes) node branchMark (first + j) (λ e. s .apart j l (sym e)) in
+      ap (λ (f : ℕ → ℕ). f (first + j)) (count-set nodes node v (s .here))
+      ∙ changed-other (countAt nodes) node branchMark (first + j) (λ e. s .apart j l (sym e)) in
       ap (λ (f : ℕ → ℕ). f (first + j)) (count-set (setNodeAt nodes node v) first emptyLeaf first-in)
       ∙ byDec (ℕ-discrete (first + j) first)
       (λ e. ap (changed (countAt (setNodeAt nodes node v)) first 0) e ∙ changed-same (countAt (setNodeAt nodes node v)) first 0)
@@ -66,15 +67,17 @@ module _ (nodes dots : List ℕ) (rects : List ℤ) (node first : ℕ) (s : Spli
       let m = read nodes dots rects in
       let m₁ = setNode m node v in
       let zeroed : m₁ .count first ≡ 0 =
-      changed-other (m .count) node branchMark first (λ e. s .apart 0 (omega arith) (omega (arith, e))) ∙ ap (countAt nodes) (omega arith) ∙ s .empty 0 (omega arith) in
+      changed-other (m .count) node branchMark first (λ e. s .apart 0 (omega arith) (omega (arith, e)))
+      ∙ ap (countAt nodes) (omega arith) ∙ s .empty 0 (omega arith) in
       let kept : changed (m₁ .count) first 0 ≡ m₁ .count = ap (λ (z : ℕ). changed (m₁ .count) first z) (sym zeroed) ∙ changed-id (m₁ .count) first in
       node-stored (setNodeAt nodes node v) dots rects first emptyLeaf first-in
       ∙ ap (λ (y : Mem). setNode y first emptyLeaf) (node-stored nodes dots rects node v (s .here))
       ∙ (λ i. record { first = changed (m₁ .first) first none; count = kept i; dot = m .dot; next = m .next })
       ∙ ap (λ (z : ℕ). setFirst (setCount (setFirst m node z) node branchMark) z none) (s .starts)
 
-  pub split-deals : (chain : Node) → chain ≡ nodeAt nodes node → (nodes₁ : List ℕ) → nodes₁ ≡ takenNodes nodes node first → Dealable nodes₁ dots rects first (chain .first) (chain .count)
-  split-deals chain e nodes₁ e₁ =
+  pub split-deals : {chain : Node} {nodes₁ : List ℕ} → chain ≡ nodeAt nodes node → nodes₁ ≡ takenNodes nodes node first
+      → Dealable nodes₁ dots rects first (chain .first) (chain .count)
+  split-deals {chain} {nodes₁} e e₁ =
       record {
         group = s .group;
         starts = s .starts;
@@ -85,20 +88,24 @@ module _ (nodes dots : List ℕ) (rects : List ℤ) (node first : ℕ) (s : Spli
         small = λ j l. omega (arith, taken-count j l, s .small, ap (λ (y : List ℕ). countAt y (first + j)) e₁, ap (λ (v : Node). v .count) e);
       }
 
-pub split-done : (nodes dots : List ℕ) (rects : List ℤ) (node : ℕ) (cell : CenteredAABB) (first : ℕ) (chain : Node) (nodes₁ nodes′ dots′ : List ℕ) → chain ≡ nodeAt nodes node
-    → nodes₁ ≡ takenNodes nodes node first → Dealt nodes₁ dots rects cell first (chain .first) (chain .count) nodes′ dots′
-    → (n : NodeData) → n .cell ≡ cell → (s : Splittable nodes dots rects node first) → read nodes′ dots′ rects ≡ splitWords n (read nodes dots rects) node (s .group) (s .chain)
+pub split-done : {nodes dots : List ℕ} {rects : List ℤ} {node : ℕ} {cell : CenteredAABB} {first : ℕ} {chain : Node} {nodes₁ : List ℕ}
+    (nodes′ dots′ : List ℕ)
+    → chain ≡ nodeAt nodes node → nodes₁ ≡ takenNodes nodes node first
+    → Dealt nodes₁ dots rects cell first (chain .first) (chain .count) nodes′ dots′
+    → (n : NodeData) → n .cell ≡ cell → (s : Splittable nodes dots rects node first)
+    → read nodes′ dots′ rects ≡ splitWords n (read nodes dots rects) node (s .group) (s .chain)
 unfolding split-deals
-split-done nodes dots rects node cell first chain nodes₁ nodes′ dots′ e e₁ dealt n c s =
-    dealt n c (split-deals nodes dots rects node first s chain e nodes₁ e₁)
-    ∙ ap (λ (m : Mem). dealWords n m (s .group) (s .chain)) (ap (λ (y : List ℕ). read y dots rects) e₁ ∙ taken-read nodes dots rects node first s n)
+split-done {dots = dots} {rects} nodes′ dots′ e e₁ dealt n c s =
+    dealt n c (split-deals s e e₁)
+    ∙ ap (λ (m : Mem). dealWords n m (s .group) (s .chain)) (ap (λ (y : List ℕ). read y dots rects) e₁ ∙ taken-read s n)
 
 -- ---- a leaf of a stored tree
 
 -- where a group is free, the leaf can be split
 pub stored-splittable : (G N : ℕ) (nodes dots : List ℕ) (rects : List ℤ) (groupHead placeHead : ℕ) (t : Tree) (g : ℕ) (free spare : List ℕ)
     → Stored G N (read nodes dots rects) groupHead placeHead t (g ∷ free) spare
-    → length nodes ≡ 2 + 10 * G → length dots ≡ 2 * N → length rects ≡ 4 * N → (path : List ℕ) (chain : List Placed) → Children path → sub t path ≡ leaf chain → length chain ≤ 65536
+    → length nodes ≡ 2 + 10 * G → length dots ≡ 2 * N → length rects ≡ 4 * N → (path : List ℕ) (chain : List Placed) → Children path
+    → sub t path ≡ leaf chain → length chain ≤ 65536
     → (s : Splittable nodes dots rects (paths.nodeAt 0 t path) groupHead) × (s .group ≡ g) × (s .chain ≡ chain)
 stored-splittable G N nodes dots rects groupHead placeHead t g free spare stored nodesFit dotsFit rectsFit path chain children e short =
     let b = paths.nodeAt 0 t path in

@@ -1,9 +1,9 @@
 -- The splits that an insert needs: at each level the dots of the leaf's chain that lie within the bounds of the node reached.
---     tally-on, tally-over         the count of a chain: a turn of its loop, its end
---     need-start, need-on, need-done       the count of the splits: the loop's invariant, a turn, its end
-use mathlib.Core.Path.{_≡_, ap, sym, subst, refl, _∙_}
+--     Tallying, tally-start, tally-here, tally-on, tally-over      the count of a chain: its loop's invariant, begin, place, turn and end
+--     Counting, need-start, need-on, need-done     the count of the splits: its loop's invariant, begin, turn and end
+use mathlib.Core.Path.{_≡_, refl, ap, sym, _∙_, subst}
 use mathlib.Core.List.{List, [], _∷_}
-use mathlib.Core.Bool.{cond, true, false, not, _&&_}
+use mathlib.Core.Bool.{Bool, true, false, cond, _&&_}
 use mathlib.Core.Logic.{_⊎_, inl, inr, ⊎-elim}
 use Prim.Native.Nat.{ℕ, _+_, _-_, _≤_, zero, suc, _<_}
 use native.Mathlib.Omega.{arith}
@@ -19,10 +19,9 @@ use Rattle.geometry.specs.Bounds.{inBounds, allBounds, boundsBelow}
 use Rattle.geometry.specs.declared.aabb.AABB.{AABB}
 use Rattle.geometry.specs.declared.settings.Settings.{Settings}
 use Rattle.geometry.specs.declared.node_data.NodeData.{NodeData}
-use Rattle.geometry.specs.Cells.{childData, mayDivide, route, maySplit}
-use Rattle.geometry.specs.Settings.{inRange}
+use Rattle.geometry.specs.Cells.{InRange, childData, mayDivide, route, maySplit}
 use Rattle.geometry.specs.Laws.Geometry.{route-child, levelsLeft, levels-fall, may-splits}
-use Rattle.geometry.specs.Laws.Ranges.{accepted}
+use Rattle.geometry.specs.Laws.Ranges.{accepted, child-range}
 use Rattle.model.specs.Sums.{sumOver}
 use Rattle.model.specs.Trees.{Placed, leaf}
 use Rattle.model.specs.declared.Dot.{Dot}
@@ -31,33 +30,50 @@ use Rattle.model.specs.Insert.{mustSplit, routeDot, deal}
 use Rattle.model.specs.Laws.Insert.{splitCount, levels-suffice}
 use Rattle.model.specs.Laws.Sums.{sumOver-one, byDec}
 use Rattle.memory.specs.declared.node.Node.{Node}
+use Rattle.memory.specs.Rows.{HasPlace, HasRect}
 use Rattle.tree.specs.Chains.{ChainStands}
-use Rattle.tree_insert.specs.SplitsNeeded.{within, Countable}
-use Rattle.tree_insert.specs.Laws.Bounds.{deal-pick, Chosen, all-chosen, child-chosen}
+use Rattle.tree.specs.Laws.Chains.{stands-here}
+use Rattle.tree.specs.Laws.Descent.{stepsLeft, steps-fall}
+use Rattle.tree_insert.specs.SplitsNeeded.{within, SomeChain, Countable, Needed}
+use Rattle.tree_insert.specs.Laws.Bounds.{one-most, deal-pick, Chosen, all-chosen, child-chosen}
 
 -- ---- the count of a chain
 
-module _ (dots : List ℕ) (rects : List ℤ) (b : Bounds) where
-  -- the count that began at h₀ is at h, with n places left
-  abbrev pub Tallying : ℕ → ℕ → ℕ → ℕ → ℕ → Type 0
-  Tallying h₀ n₀ h n count =
-      (chain : List Placed) → ChainStands dots rects h₀ n₀ chain → (ds : List Placed) × ChainStands dots rects h n ds × (sumOver (within b) chain ≡ count + sumOver (within b) ds)
+-- the count that began at a head is at a place, with so many left
+pub record Tallying (dots : List ℕ) (rects : List ℤ) (b : Bounds) (head total at left count : ℕ) : Type 0 where
+  pub few : count + left ≤ total
+  pub rest : (chain : List Placed) → ChainStands dots rects head total chain
+      → (ds : List Placed) × ChainStands dots rects at left ds × (sumOver (within b) chain ≡ count + sumOver (within b) ds)
 
-  pub tally-on : (h₀ n₀ h n count h′ count′ : ℕ) → Tallying h₀ n₀ h n count → 1 ≤ n → h′ ≡ nextAt dots h → count′ ≡ count + cond (inBounds b (rectAt rects h)) 1 0
-      → Tallying h₀ n₀ h′ (n - 1) count′
-  tally-on h₀ n₀ h n count h′ count′ t some eh ec chain s = go (t chain s .0) (t chain s .1) (t chain s .2)
-    where
-      go : (ds : List Placed) → ChainStands dots rects h n ds → sumOver (within b) chain ≡ count + sumOver (within b) ds
-          → (ds : List Placed) × ChainStands dots rects h′ (n - 1) ds × (sumOver (within b) chain ≡ count′ + sumOver (within b) ds)
-      go [] g q = absurd (omega arith)
-      go (d ∷ ds) g q =
-          let here : cond (inBounds b (rectAt rects h)) 1 0 ≡ within b d = ap (λ (y : Dot). cond (inBounds b (y .rect)) 1 0) (g .3) in
-          (ds, subst (λ (y : ℕ). ChainStands dots rects y (n - 1) ds) (sym eh) (g .5), omega (arith, here))
+pub tally-start : {dots : List ℕ} {rects : List ℤ} {b : Bounds} {head total : ℕ} → Tallying dots rects b head total head total 0
+tally-start = record { few = omega arith; rest = λ chain s. (chain, s, omega arith) }
 
-  pub tally-over : (h₀ n₀ h n count : ℕ) → Tallying h₀ n₀ h n count → n ≡ 0 → (chain : List Placed) → ChainStands dots rects h₀ n₀ chain → count ≡ sumOver (within b) chain
-  tally-over h₀ n₀ h n count t e chain s = go (t chain s .0) (t chain s .1) (t chain s .2)
+module _ {dots : List ℕ} {rects : List ℤ} {b : Bounds} {head total at left count : ℕ} (t : Tallying dots rects b head total at left count) where
+  pub tally-here : SomeChain dots rects head total → 1 ≤ left → HasPlace dots at × HasRect rects at
+  tally-here given some = let r = t .rest (given .chain) (given .stands) in stands-here dots rects at left (r .0) (r .1) some
+
+  -- a dot is counted where its rectangle lies within the bounds
+  pub tally-on : 1 ≤ left → {rect : AABB} {holds : Bool} {next count′ : ℕ} → rect ≡ rectAt rects at → holds ≡ inBounds b rect
+      → ((holds ≡ true) × (count′ ≡ count + 1)) ⊎ ((holds ≡ false) × (count′ ≡ count)) → next ≡ nextAt dots at
+      → Tallying dots rects b head total next (left - 1) count′
+  tally-on some {holds = holds} {next} {count′} er eh came en =
+      record { few = omega (arith, step, one-most holds); rest = λ chain s. go chain (t .rest chain s .0) (t .rest chain s .1) (t .rest chain s .2) }
     where
-      go : (ds : List Placed) → ChainStands dots rects h n ds → sumOver (within b) chain ≡ count + sumOver (within b) ds → count ≡ sumOver (within b) chain
+      step : count′ ≡ count + cond holds 1 0
+      step = ⊎-elim (λ w. rw (w .0) (w .1)) (λ w. rw (w .0) (w .1 ∙ omega arith)) came
+
+      go : (chain ds : List Placed) → ChainStands dots rects at left ds → sumOver (within b) chain ≡ count + sumOver (within b) ds
+          → (ds : List Placed) × ChainStands dots rects next (left - 1) ds × (sumOver (within b) chain ≡ count′ + sumOver (within b) ds)
+      go chain [] g q = absurd (omega arith)
+      go chain (d ∷ ds) g q =
+          let here : cond holds 1 0 ≡ within b d =
+          ap (λ (y : Bool). cond y 1 0) (eh ∙ ap (inBounds b) (er ∙ ap (λ (y : Dot). y .rect) (g .3))) in
+          (ds, subst (λ (y : ℕ). ChainStands dots rects y (left - 1) ds) (sym en) (g .5), omega (arith, here, step))
+
+  pub tally-over : left ≤ 0 → (chain : List Placed) → ChainStands dots rects head total chain → count ≡ sumOver (within b) chain
+  tally-over none-left chain s = go (t .rest chain s .0) (t .rest chain s .1) (t .rest chain s .2)
+    where
+      go : (ds : List Placed) → ChainStands dots rects at left ds → sumOver (within b) chain ≡ count + sumOver (within b) ds → count ≡ sumOver (within b) chain
       go [] g q = omega arith
       go (d ∷ ds) g q = absurd (omega (arith, g .4))
 
@@ -77,7 +93,8 @@ no-split s zero n r chain e = refl
 no-split s (suc levels) n r chain e = rw e refl
 
 module _ (s : Settings) (dots : List ℕ) (rects : List ℤ) (node : Node) (n₀ : NodeData) (r : AABB) where
-  -- of a leaf with the chain: so many splits are counted, and the rest are those of a leaf at n whose chain has count dots, those within b; at a child 0 there are none
+  -- of a leaf with the chain: so many splits are counted, and the rest are those of a leaf at n whose chain has count dots, those within b;
+  -- at a child 0 there are none
   pub record Counted (k : Countable s dots rects node n₀) (levels₀ : ℕ) (n : NodeData) (b : Bounds) (count splits : ℕ) : Type 0 where
     pub levels : ℕ
     pub chain : List Placed
@@ -85,77 +102,99 @@ module _ (s : Settings) (dots : List ℕ) (rects : List ℤ) (node : Node) (n₀
     pub same : splitCount s levels₀ n₀ r (leaf (k .chain)) ≡ splits + splitCount s levels n r (leaf chain)
     pub told : (n .«is_child_0» ≡ true) ⊎ ((count ≡ length chain) × Chosen b (k .chain) chain)
 
-  abbrev pub CountedAll : NodeData → Bounds → ℕ → ℕ → Type 0
-  CountedAll n b count splits = (k : Countable s dots rects node n₀) (levels₀ : ℕ) → levelsLeft s n₀ ≤ levels₀ → Counted k levels₀ n b count splits
+  -- the loop's invariant
+  pub record Counting (n : NodeData) (b : Bounds) (count splits : ℕ) : Type 0 where
+    pub range : InRange (n .cell)
+    pub few : splits + stepsLeft n ≤ stepsLeft n₀
+    pub all : (k : Countable s dots rects node n₀) (levels₀ : ℕ) → levelsLeft s n₀ ≤ levels₀ → Counted k levels₀ n b count splits
 
-  pub need-start : (b : Bounds) → b ≡ allBounds → CountedAll n₀ b (node .count) 0
-  need-start b e k levels₀ high =
+module _ {s : Settings} {dots : List ℕ} {rects : List ℤ} {node : Node} {n₀ : NodeData} {r : AABB} where
+  pub need-start : {b : Bounds} → Countable s dots rects node n₀ → b ≡ allBounds → Counting s dots rects node n₀ r n₀ b (node .count) 0
+  need-start {b} given e =
       record {
-        levels = levels₀;
-        chain = k .chain;
-        high = high;
-        same = omega arith;
-        told = inr (k .counted, subst (λ (y : Bounds). Chosen y (k .chain) (k .chain)) (sym e) (all-chosen s (k .chain) (k .dotsFit)));
+        range = given .range;
+        few = omega arith;
+        all = λ k levels₀ high.
+            record {
+              levels = levels₀;
+              chain = k .chain;
+              high = high;
+              same = omega arith;
+              told = inr (k .counted, subst (λ (y : Bounds). Chosen y (k .chain) (k .chain)) (sym e) (all-chosen s (k .chain) (k .dotsFit)));
+            };
       }
 
-  module _ (n : NodeData) (b : Bounds) (count splits : ℕ) (counted : CountedAll n b count splits) (accept : inRange s ≡ true) where
+  module _ {n : NodeData} {b : Bounds} {count splits : ℕ} (counting : Counting s dots rects node n₀ r n b count splits) (given : Countable s dots rects node n₀)
+      {full? : Bool} (tested : full? ≡ maySplit s n && leb (s .«leaf_limit») count) where
     one : 1 ≤ s .«smallest_cell»
-    one = accepted s accept .cell
+    one = accepted s (given .settings) .cell
+
+    pub need-done : full? ≡ false → Needed s dots rects node n₀ r splits
+    need-done not k levels₀ high =
+        let c = counting .all k levels₀ high in
+        let stays : mustSplit s n (c .chain) ≡ false =
+        ⊎-elim (λ z. child-stays s n (c .chain) z)
+        (λ e. ap (λ (y : ℕ). maySplit s n && leb (s .«leaf_limit») y) (sym (e .0)) ∙ sym tested ∙ not) (c .told) in
+        omega (arith, c .same, no-split s (c .levels) n r (c .chain) stays)
 
     -- where the leaf is full and may split
-    module _ (full : maySplit s n && leb (s .«leaf_limit») count ≡ true) where
+    module _ (full : full? ≡ true) where
       may : maySplit s n ≡ true
-      may = and-t (maySplit s n) (leb (s .«leaf_limit») count) full .0
+      may = and-t (maySplit s n) (leb (s .«leaf_limit») count) (sym tested ∙ full) .0
 
-      pub need-above : (n .«is_child_0» ≡ false) × (n .depth < 255)
-      need-above = let m = may-splits s n may in (m .noChild0, omega (arith, m .above, accepted s accept .depth))
+      pub need-depth : n .depth < 255
+      need-depth = omega (arith, may-splits s n may .above, accepted s (given .settings) .depth)
 
-      pub need-on : (child : ℕ) (n′ : NodeData) (b′ : Bounds) (count′ : ℕ) → child ≡ route n r → n′ ≡ childData n child → b′ ≡ boundsBelow b (n .cell) child
-          → ((chain : List Placed) → ChainStands dots rects (node .first) (node .count) chain → count′ ≡ sumOver (within b′) chain) → CountedAll n′ b′ count′ (splits + 1)
-      need-on child n′ b′ count′ ec en eb count-is k levels₀ high = go (counted k levels₀ high .levels) (counted k levels₀ high .high) (counted k levels₀ high .same) (counted k levels₀ high .told)
-        where
-          chain : List Placed
-          chain = counted k levels₀ high .chain
+      pub need-fall : (child : ℕ) {n′ : NodeData} → n′ ≡ childData n child → stepsLeft n′ < stepsLeft n
+      need-fall child e =
+          subst (λ (y : NodeData). stepsLeft y < stepsLeft n) (sym e) (steps-fall n child (may-splits s n may .noChild0) need-depth)
 
-          i : ℕ
-          i = route n r
+      must : (chain : List Placed) → count ≡ length chain → mustSplit s n chain ≡ true
+      must chain e = ap (λ (y : ℕ). maySplit s n && leb (s .«leaf_limit») y) (sym e) ∙ sym tested ∙ full
 
-          chain′ : List Placed
-          chain′ = deal n (λ j. []) chain i
+      -- a turn, into the child
+      module _ {child : ℕ} {n′ : NodeData} {b′ : Bounds} {count′ : ℕ} (ec : child ≡ route n r) (en : n′ ≡ childData n child)
+          (eb : b′ ≡ boundsBelow b (n .cell) child)
+          (count-is : (chain : List Placed) → ChainStands dots rects (node .first) (node .count) chain → count′ ≡ sumOver (within b′) chain) where
+        known : childData n (route n r) ≡ n′
+        known = ap (childData n) (sym ec) ∙ sym en
 
-          go : (levels : ℕ) → levelsLeft s n ≤ levels → splitCount s levels₀ n₀ r (leaf (k .chain)) ≡ splits + splitCount s levels n r (leaf chain)
-              → (n .«is_child_0» ≡ true) ⊎ ((count ≡ length chain) × Chosen b (k .chain) chain) → Counted k levels₀ n′ b′ count′ (splits + 1)
-          go levels h same (inl c) = true-false (sym c ∙ need-above .0)
-          go zero h same (inr c) = true-false (sym (must c) ∙ levels-suffice s one n chain (omega arith))
-            where
-              must : (count ≡ length chain) × Chosen b (k .chain) chain → mustSplit s n chain ≡ true
-              must c = ap (λ (y : ℕ). maySplit s n && leb (s .«leaf_limit») y) (sym (c .0)) ∙ full
-          go (suc levels) h same (inr c) =
-              let must : mustSplit s n chain ≡ true = ap (λ (y : ℕ). maySplit s n && leb (s .«leaf_limit») y) (sym (c .0)) ∙ full in
-              let known : childData n i ≡ n′ = ap (childData n) (sym ec) ∙ sym en in
-              let more : splitCount s levels₀ n₀ r (leaf (k .chain)) ≡ splits + (1 + splitCount s levels (childData n i) r (leaf chain′)) = rw must at same in
-              let chosen : 1 ≤ i → Chosen b′ (k .chain) chain′ =
-              λ some h.
-              deal-pick n h (λ j. []) chain i ∙ omega arith ∙ c .1 (λ d. cond (eqb (routeDot n d) i) (h d) 0)
-              ∙ child-chosen s b n i some (route-child n r) h (k .chain) (k .dotsFit)
-              ∙ ap (λ (y : Bounds). sumOver (λ d. cond (inBounds y (d .dot .rect)) (h d) 0) (k .chain)) (ap (boundsBelow b (n .cell)) (sym ec) ∙ sym eb) in
-              record {
-                levels = levels;
-                chain = chain′;
-                high = subst (λ (y : NodeData). levelsLeft s y ≤ levels) known (omega (arith, levels-fall s one n may i));
-                same = omega (arith, more, ap (λ (y : NodeData). splitCount s levels y r (leaf chain′)) known);
-                told =
-                    byDec (ℕ-discrete i 0)
-                    (λ z. inl (subst (λ (y : NodeData). y .«is_child_0» ≡ true) known (child-0 n i z)))
-                    (λ ne.
-                    let some : 1 ≤ i = omega arith in
-                    inr (count-is (k .chain) (k .stands) ∙ sym (chosen some (λ d. 1)) ∙ sumOver-one chain′, chosen some));
-              }
+        counted-on : (k : Countable s dots rects node n₀) (levels₀ : ℕ) → (chain : List Placed) (levels : ℕ) → levelsLeft s n ≤ levels
+            → splitCount s levels₀ n₀ r (leaf (k .chain)) ≡ splits + splitCount s levels n r (leaf chain)
+            → (n .«is_child_0» ≡ true) ⊎ ((count ≡ length chain) × Chosen b (k .chain) chain)
+            → Counted s dots rects node n₀ r k levels₀ n′ b′ count′ (splits + 1)
+        counted-on k levels₀ chain levels h same (inl c) = true-false (sym c ∙ may-splits s n may .noChild0)
+        counted-on k levels₀ chain zero h same (inr c) = true-false (sym (must chain (c .0)) ∙ levels-suffice s one n chain (omega arith))
+        counted-on k levels₀ chain (suc levels) h same (inr c) =
+            let i = route n r in
+            let chain′ = deal n (λ j. []) chain i in
+            let more : splitCount s levels₀ n₀ r (leaf (k .chain)) ≡ splits + (1 + splitCount s levels (childData n i) r (leaf chain′)) =
+            rw (must chain (c .0)) at same in
+            let chosen : 1 ≤ i → Chosen b′ (k .chain) chain′ =
+            λ some h.
+            deal-pick n h (λ j. []) chain i ∙ omega arith ∙ c .1 (λ d. cond (eqb (routeDot n d) i) (h d) 0)
+            ∙ child-chosen s b n i some (route-child n r) h (k .chain) (k .dotsFit)
+            ∙ ap (λ (y : Bounds). sumOver (λ d. cond (inBounds y (d .dot .rect)) (h d) 0) (k .chain)) (ap (boundsBelow b (n .cell)) (sym ec) ∙ sym eb) in
+            record {
+              levels = levels;
+              chain = chain′;
+              high = subst (λ (y : NodeData). levelsLeft s y ≤ levels) known (omega (arith, levels-fall s one n may i));
+              same = omega (arith, more, ap (λ (y : NodeData). splitCount s levels y r (leaf chain′)) known);
+              told =
+                  byDec (ℕ-discrete i 0)
+                  (λ z. inl (subst (λ (y : NodeData). y .«is_child_0» ≡ true) known (child-0 n i z)))
+                  (λ ne.
+                  let some : 1 ≤ i = omega arith in
+                  inr (count-is (k .chain) (k .stands) ∙ sym (chosen some (λ d. 1)) ∙ sumOver-one chain′, chosen some));
+            }
 
-    pub need-done : maySplit s n && leb (s .«leaf_limit») count ≡ false → (k : Countable s dots rects node n₀) (levels₀ : ℕ) → levelsLeft s n₀ ≤ levels₀
-        → splits ≡ splitCount s levels₀ n₀ r (leaf (k .chain))
-    need-done not k levels₀ high =
-        let c = counted k levels₀ high in
-        let stays : mustSplit s n (c .chain) ≡ false =
-        ⊎-elim (λ z. child-stays s n (c .chain) z) (λ e. ap (λ (y : ℕ). maySplit s n && leb (s .«leaf_limit») y) (sym (e .0)) ∙ not) (c .told) in
-        omega (arith, c .same, no-split s (c .levels) n r (c .chain) stays)
+        pub need-on : Counting s dots rects node n₀ r n′ b′ count′ (splits + 1)
+        unfolding childData
+        need-on =
+            record {
+              range = subst (λ (y : NodeData). InRange (y .cell)) known (child-range (n .cell) (route n r) (counting .range));
+              few = omega (arith, counting .few, need-fall child en);
+              all = λ k levels₀ high.
+                  let c = counting .all k levels₀ high in
+                  counted-on k levels₀ (c .chain) (c .levels) (c .high) (c .same) (c .told);
+            }

@@ -1,7 +1,6 @@
 -- A search whose invariant is that what it finds from here on is what it finds from the head; the places left are counted.
 use mathlib.Core.Path.{refl}
 use native.Mathlib.Omega.{arith}
-use borrow.Author.Needs.{needs}
 use Rattle.model.specs.Layout.{none}
 use Rattle.memory.specs.Rows.{HasPlace}
 use Rattle.tree_remove.specs.Laws.Search.{Searching, search-start, search-here, search-on, search-over, search-found}

@@ -1,6 +1,6 @@
 -- Where a dot with an id stands in its chain.
 --     Found, found-split   at the head, or behind another
---     hit-absent           there is none
+--     hit-absent   there is none
 use mathlib.Core.Path.{_≡_, refl, ap, sym}
 use mathlib.Core.List.{List, _∷_, _++_, []}
 use mathlib.Core.Bool.{true, false}

@@ -1,6 +1,6 @@
 -- The search along a leaf's chain, and the dot that it finds taken out.
 --     Searching    the loop's invariant: what is found from here on is what is found from the head
---     search-start, search-here, search-on         its begin; the next place is there; a turn
+--     search-start, search-here, search-on its begin; the next place is there; a turn
 --     search-over, search-found    its two ends
 --     unlinked-head, unlinked-later        the words without the dot that was found, by the two ways through the code
 use mathlib.Core.Path.{_≡_, refl, ap, sym, _∙_, subst}

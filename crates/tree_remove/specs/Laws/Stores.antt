@@ -1,5 +1,5 @@
 -- The memory that the stores of a remove leave.
---     nodesWithout, dotsWithout, rectsWithout, stateWithout    the rows and the state without the dot
+--     nodesWithout, dotsWithout, rectsWithout, stateWithout        the rows and the state without the dot
 --     head-read, behind-read       the memory after the stores, by where the dot stood
 use mathlib.Core.Path.{_≡_, refl, ap, _∙_}
 use mathlib.Core.List.{List}
