@@ -1,6 +1,6 @@
 -- What the cleanup's walk asks of the words, and what it leaves.
 --     HasGroup, emptyGroup, turnedNodes    a group in the row; the test of a group; the stores that turn a branch
---     walkOf       the rows and the head, as the walk of tree's Collapses
+--     walkOf       the rows and the head, as the walk of tree's Cleanup
 --     Fits         what keeps a tree within the row and its numbers small
 --     NodeToClean, NodeCleaned, GroupToClean, GroupCleaned     the contracts of the node's and the group's walk
 use mathlib.Core.Path.{_≡_}
@@ -15,9 +15,8 @@ use Rattle.model.specs.Cleanup.{downFrom, turned}
 use Rattle.model.specs.Memory.{read, countAt, Represents, FreeGroups}
 use Rattle.memory.specs.Nodes.{emptyLeaf}
 use Rattle.memory.specs.Rows.{HasNode, setNodeAt}
-use Rattle.tree.specs.Frames.{nodeCount}
-use Rattle.tree.specs.Collapses.{overGroup, Walk, cleanWords, TreeAndFree}
-use Rattle.tree.specs.Standing.{NodesIn, nodeTotal}
+use Rattle.tree.specs.Trees.{nodeCount, overGroup, NodesIn, nodeTotal}
+use Rattle.tree.specs.Cleanup.{Walk, cleanWords, TreeAndFree}
 use Rattle.tree_cleanup.specs.declared.Swept.{Swept}
 
 abbrev pub HasGroup : List ℕ → ℕ → Type 0
@@ -40,7 +39,7 @@ pub record Fits (nodes : List ℕ) (levels a : ℕ) (t : Tree) : Type 0 where
   pub shallow : Shallow levels t
   pub few : size t ≤ 65536
 
--- the walk of the tree is done: the words and the head are those of Collapses, and so many branches more are turned
+-- the walk of the tree is done: the words and the head are those of tree's Cleanup, and so many branches more are turned
 pub record Cleaned (nodes dots : List ℕ) (rects : List ℤ) (swept : Swept) (done : Walk → Walk) (k : ℕ) (nodes′ : List ℕ) (r : Swept) : Type 0 where
   pub walk : walkOf nodes′ dots rects (r .head) ≡ done (walkOf nodes dots rects (swept .head))
   pub more : r .turned ≡ swept .turned + k

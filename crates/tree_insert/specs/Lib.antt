@@ -1,16 +1,16 @@
--- Insert: what its code looks up and stores, in the order of the code.
---     FreeLists    the walk along the free groups
---     Counting     the splits needed
---     Dealing, Splitting   the deal of a chain, the split of a leaf
---     Growing      the splits on the way down
---     Arrivals     the insert at the leaf that the dot routes to
---     Landings     the push, and the whole insert
---     Refusals     4 to 7, and the insert that is not refused
-pub mod FreeLists
-pub mod Counting
-pub mod Dealing
-pub mod Splitting
-pub mod Growing
-pub mod Arrivals
-pub mod Landings
-pub mod Refusals
+-- Insert: what its contracts say of each step, in the order of the code.
+--     FreeGroups   the walk along the free groups
+--     SplitsNeeded the splits needed, counted without a store
+--     Deal, LeafSplit      the deal of a chain, the split of a leaf
+--     SplitDown    the splits on the way down
+--     Push         the push of the dot
+--     InsertAt     the insert that is not refused
+-- Laws has the proofs.
+pub mod FreeGroups
+pub mod SplitsNeeded
+pub mod Deal
+pub mod LeafSplit
+pub mod SplitDown
+pub mod Push
+pub mod InsertAt
+pub mod Laws

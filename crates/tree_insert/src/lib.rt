@@ -8,7 +8,8 @@ ghost use Rattle.model.specs.Calls.{insertRule};
 ghost use Rattle.model.specs.Answers.{insertState, insertReply};
 ghost use lib.ListN.{length, replicate};
 ghost use Rattle.tree.specs.Operations.{IsTree, CarriedOut};
-ghost use Rattle.tree_insert.specs.Landings.{Lands, Starts, CanInsert, pushedNodes, pushedDots, pushedRects};
+ghost use Rattle.tree_insert.specs.Push.{CanPush, pushedNodes, pushedDots, pushedRects};
+ghost use Rattle.tree_insert.specs.InsertAt.{Starts, CanInsert};
 
 mod needed;
 mod split;
@@ -35,7 +36,7 @@ fn push_dot(
     place: u32,
     dot: Dot,
 )
-    requires { ⌜ Lands (now nodes) (now dots) (now rects) node place ⌝ }
+    requires { ⌜ CanPush (now nodes) (now dots) (now rects) node place ⌝ }
     ensures { λ _. ⌜ (now (nodes .exit) ≡ pushedNodes (now (nodes .entry)) node place) × (now (dots .exit) ≡ pushedDots (now (nodes .entry)) (now (dots .entry)) node place dot) × (now (rects .exit) ≡ pushedRects (now (rects .entry)) place dot) ⌝ }
 {
     set_dot(dots, rects, place as usize, dot);

@@ -8,9 +8,9 @@ ghost use lib.ListN.{length};
 ghost use Rattle.geometry.specs.Cells.{maySplit};
 ghost use Rattle.model.specs.Sums.{sumOver};
 ghost use Rattle.model.specs.Trees.{Placed};
-ghost use Rattle.tree.specs.Chains.{Standing};
-ghost use Rattle.tree_insert.specs.FreeLists.{FreeIn, SomeFree};
-ghost use Rattle.tree_insert.specs.Counting.{within, SomeStanding, Countable, Needed};
+ghost use Rattle.tree.specs.Chains.{ChainStands};
+ghost use Rattle.tree_insert.specs.FreeGroups.{FreeIn, SomeFree};
+ghost use Rattle.tree_insert.specs.SplitsNeeded.{within, SomeChain, Countable, Needed};
 use geometry::aabb::AABB;
 use geometry::bounds::Bounds;
 use geometry::node_data::NodeData;
@@ -47,8 +47,8 @@ pub fn must_split(settings: Settings, node_data: NodeData, count: u32) -> bool
 
 // How many dots of a chain lie within bounds.
 fn count_within(dots: &[u32], rects: &[i32], chain: Node, bounds: Bounds) -> u32
-    requires { ⌜ SomeStanding (now dots) (now rects) (chain .first) (chain .count) ⌝ }
-    ensures { λ r. ⌜ ((ds : List Placed) → Standing (now (dots .entry)) (now (rects .entry)) (chain .first) (chain .count) ds → r ≡ sumOver (within bounds) ds) ⌝ }
+    requires { ⌜ SomeChain (now dots) (now rects) (chain .first) (chain .count) ⌝ }
+    ensures { λ r. ⌜ ((ds : List Placed) → ChainStands (now (dots .entry)) (now (rects .entry)) (chain .first) (chain .count) ds → r ≡ sumOver (within bounds) ds) ⌝ }
 {
     let mut at = chain.first;
     let mut left = chain.count;

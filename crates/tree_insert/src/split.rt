@@ -5,9 +5,9 @@ ghost use Rattle.model.specs.Memory.{firstAt, countAt};
 ghost use Rattle.model.specs.Layout.{branchMark};
 ghost use Rattle.memory.specs.Nodes.{emptyLeaf};
 ghost use Rattle.memory.specs.Rows.{HasNode, HasPlace, setNodeAt, setNextAt};
-ghost use Rattle.tree_insert.specs.Dealing.{Dealable, Dealt};
-ghost use Rattle.tree_insert.specs.Splitting.{Splittable, Split};
-ghost use Rattle.tree_insert.specs.Growing.{CanGo, Gone};
+ghost use Rattle.tree_insert.specs.Deal.{Dealable, Dealt};
+ghost use Rattle.tree_insert.specs.LeafSplit.{Splittable, Split};
+ghost use Rattle.tree_insert.specs.SplitDown.{CanSplitDown, SplitsDone};
 use geometry::aabb::AABB;
 use geometry::centered_aabb::CenteredAABB;
 use memory::node::Node;
@@ -112,8 +112,8 @@ pub fn split_down(
     splits: u32,
     rect: AABB,
 ) -> Reached
-    requires { ⌜ CanGo rect (now nodes) (now dots) (now rects) group leaf splits ⌝ }
-    ensures { λ r. ⌜ Gone rect (now (nodes .entry)) (now (dots .entry)) (now (rects .entry)) group leaf splits (now (nodes .exit)) (now (dots .exit)) r ⌝ }
+    requires { ⌜ CanSplitDown rect (now nodes) (now dots) (now rects) group leaf splits ⌝ }
+    ensures { λ r. ⌜ SplitsDone rect (now (nodes .entry)) (now (dots .entry)) (now (rects .entry)) group leaf splits (now (nodes .exit)) (now (dots .exit)) r ⌝ }
 {
     let mut node = leaf.node;
     let mut node_data = leaf.node_data;

@@ -22,7 +22,7 @@ use Rattle.model.specs.Trees.{Placed, Tree, childNode, size}
 use Rattle.model.specs.Query.{hits, opened}
 use Rattle.model.specs.Layout.{none}
 use Rattle.model.specs.Memory.{read, Chained}
-use Rattle.tree.specs.Standing.{InRows, nodeTotal, Stands}
+use Rattle.tree.specs.Trees.{InRows, nodeTotal, TreeStands}
 use Rattle.model.specs.declared.answers.Found.{Found}
 use Rattle.tree_query.specs.Rows.{kept, keptAll}
 
@@ -88,14 +88,14 @@ ChainWalked q dots rects room row found head count row′ r =
 
 pub record NodeWalk (cell : CenteredAABB) (nodes dots : List ℕ) (rects : List ℤ) (room : ℕ) (row : List ℕ) (found : Found) (a levels : ℕ) : Type 0 where
   pub tree : Tree
-  pub stands : Stands nodes dots rects levels a tree
+  pub stands : TreeStands nodes dots rects levels a tree
   pub grows : CanGrow found (size tree) (nodeTotal tree)
   pub fits : room ≤ length row
   pub cellFits : InRange cell
 
 unfoldable pub NodeWalked : AABB → CenteredAABB → List ℕ → List ℕ → List ℤ → ℕ → List ℕ → Found → ℕ → ℕ → List ℕ → Found → Type 0
 NodeWalked q cell nodes dots rects room row found a levels row′ r =
-    (t : Tree) (n : NodeData) → Stands nodes dots rects levels a t → n .cell ≡ cell → Left room row found (hits q n t) (opened q n t) row′ r
+    (t : Tree) (n : NodeData) → TreeStands nodes dots rects levels a t → n .cell ≡ cell → Left room row found (hits q n t) (opened q n t) row′ r
 
 pub record GroupWalk (q : AABB) (cell : CenteredAABB) (quadrants : Quadrants) (nodes dots : List ℕ) (rects : List ℤ)
     (room : ℕ) (row : List ℕ) (found : Found) (first levels left : ℕ) : Type 0 where
@@ -103,7 +103,7 @@ pub record GroupWalk (q : AABB) (cell : CenteredAABB) (quadrants : Quadrants) (n
   pub children : ℕ → Tree
   pub head : first ≡ childNode group 0
   pub small : left ≤ 5
-  pub stands : (i : ℕ) → 5 ≤ i + left → i < 5 → Stands nodes dots rects levels (childNode group i) (children i)
+  pub stands : (i : ℕ) → 5 ≤ i + left → i < 5 → TreeStands nodes dots rects levels (childNode group i) (children i)
   pub grows : CanGrow found (sumLast left (λ i. size (children i))) (sumLast left (λ i. nodeTotal (children i)))
   pub fits : room ≤ length row
   pub cellFits : InRange cell
@@ -112,5 +112,5 @@ pub record GroupWalk (q : AABB) (cell : CenteredAABB) (quadrants : Quadrants) (n
 unfoldable pub GroupWalked : AABB → CenteredAABB → List ℕ → List ℕ → List ℤ → ℕ → List ℕ → Found → ℕ → ℕ → ℕ → List ℕ → Found → Type 0
 GroupWalked q cell nodes dots rects room row found first levels left row′ r =
     (g : ℕ) (f : ℕ → Tree) (n : NodeData) → first ≡ childNode g 0
-    → ((i : ℕ) → 5 ≤ i + left → i < 5 → Stands nodes dots rects levels (childNode g i) (f i)) → n .cell ≡ cell
+    → ((i : ℕ) → 5 ≤ i + left → i < 5 → TreeStands nodes dots rects levels (childNode g i) (f i)) → n .cell ≡ cell
     → Left room row found (groupHits q n f left) (groupOpened q n f left) row′ r

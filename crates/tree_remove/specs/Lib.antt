@@ -1,5 +1,5 @@
--- Remove: what its code looks up and stores.
---     Search       the search along a leaf's chain
---     Removes      the remove in the rows
+-- Remove: what its contracts say.
+--     Search       the search along a leaf's chain, and the dot that it finds taken out
+-- Laws has the proofs.
 pub mod Search
-pub mod Removes
+pub mod Laws

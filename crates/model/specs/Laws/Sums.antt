@@ -7,7 +7,7 @@
 use mathlib.Core.Path.{_≡_, refl, ap, sym, _∙_, subst}
 use mathlib.Core.Logic.{_≢_}
 use mathlib.Core.List.{List, [], _∷_, _++_, map}
-use Prim.Native.Nat.{ℕ, zero, suc, _+_, _*_, _≤_, _<_}
+use Prim.Native.Nat.{ℕ, zero, suc, _+_, _*_, _≤_, _<_, _-_}
 use native.Mathlib.Nat.{not-suc-le-zero, le-refl, mul-add, mul-zero}
 use native.Mathlib.Decide.{ℕ-discrete, decLe}
 use native.Mathlib.Omega.{arith}
@@ -86,6 +86,10 @@ pub sumBelow-term : (n : ℕ) (f : ℕ → ℕ) (c : ℕ) → c < n → f c ≤ 
 sumBelow-term zero f c h = omega arith
 sumBelow-term (suc n) f c h =
     byDec (ℕ-discrete c n) (λ e. omega (arith, ap f e)) (λ ne. omega (arith, sumBelow-term n f c (omega arith)))
+
+-- the last term, and the others
+pub sumBelow-last : (n : ℕ) → ¬ (n ≡ 0) → (f : ℕ → ℕ) → sumBelow n f ≡ f (n - 1) + sumBelow (n - 1) f
+sumBelow-last n some f = let e : n ≡ suc (n - 1) = omega arith in omega (arith, ap (λ (k : ℕ). sumBelow k f) e)
 
 pub sumBelow-two : (n : ℕ) (f : ℕ → ℕ) (c j : ℕ) → c < n → j < n → c ≢ j → f c + f j ≤ sumBelow n f
 sumBelow-two zero f c j h k ne = omega arith

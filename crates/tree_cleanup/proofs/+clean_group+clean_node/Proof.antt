@@ -1,4 +1,4 @@
--- The cleanup's walk makes the words and the head that tree's Collapses says, and counts the branches that it turns.
+-- The cleanup's walk makes the words and the head that tree's Cleanup says, and counts the branches that it turns.
 -- The node's walk hands its group on, the group's hands each child back, the last first.
 -- The measure: seven for each level left, and in a group one more and the children left.
 use Prim.Native.Nat.{ℕ, _≤_, _<_, _+_, _*_}

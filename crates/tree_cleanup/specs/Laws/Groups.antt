@@ -15,9 +15,10 @@ use Rattle.model.specs.Laws.Sums.{sumBelow-le, sumBelow-term}
 use Rattle.model.specs.Trees.{Tree, leaf, branch, childNode}
 use Rattle.model.specs.Cleanup.{allEmpty, freedBy, turned}
 use Rattle.memory.specs.Rows.{HasNode}
-use Rattle.tree.specs.Frames.{nodeCount, tree-frame}
-use Rattle.tree.specs.Collapses.{clean-nodes, Walk, cleanWords, TreeAndFree, tree-cleaned}
-use Rattle.tree.specs.Standing.{NodesIn, nodeTotal}
+use Rattle.tree.specs.Trees.{nodeCount, NodesIn, nodeTotal}
+use Rattle.tree.specs.Laws.Frames.{tree-frame}
+use Rattle.tree.specs.Laws.Cleanup.{clean-nodes, tree-cleaned}
+use Rattle.tree.specs.Cleanup.{Walk, cleanWords, TreeAndFree}
 use Rattle.tree_cleanup.specs.declared.Swept.{Swept}
 use Rattle.tree_cleanup.specs.Walks.{walkOf, Fits, Cleaned, NodeToClean, NodeCleaned, ChildrenAndFree, cleanChildren, GroupToClean, GroupCleaned}
 use Rattle.tree_cleanup.specs.Laws.Nodes.{walked-in}

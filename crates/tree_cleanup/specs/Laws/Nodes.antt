@@ -25,9 +25,9 @@ use Rattle.memory.specs.declared.node.Node.{Node}
 use Rattle.memory.specs.Nodes.{nodeAt, emptyLeaf}
 use Rattle.memory.specs.Rows.{HasNode, setNodeAt}
 use Rattle.memory.specs.Laws.Stores.{first-set, count-set, node-length, changed-by}
-use Rattle.tree.specs.Frames.{nodeCount}
-use Rattle.tree.specs.Collapses.{collapse, cleanWords, TreeAndFree}
-use Rattle.tree.specs.Standing.{nodeTotal, not-branch, is-branch, node-in-row, mark-no-leaf, shallow-branch}
+use Rattle.tree.specs.Trees.{nodeCount, nodeTotal}
+use Rattle.tree.specs.Cleanup.{collapse, cleanWords, TreeAndFree}
+use Rattle.tree.specs.Laws.Trees.{not-branch, is-branch, node-in-row, mark-no-leaf, shallow-branch}
 use Rattle.tree_cleanup.specs.declared.Swept.{Swept}
 use Rattle.tree_cleanup.specs.Walks.{HasGroup, emptyGroup, turnedNodes, walkOf, Fits, Cleaned, ChildrenAndFree, cleanChildren}
 use Rattle.tree_cleanup.specs.Walks.{NodeToClean, NodeCleaned, GroupToClean, GroupCleaned}

@@ -20,12 +20,13 @@ use Rattle.model.specs.Calls.{answered, exit, cleanupRule}
 use Rattle.model.specs.Laws.Shapes.{below-le, cleaned-valid}
 use Rattle.model.specs.Laws.Cleanup.{clean-sum}
 use Rattle.model.specs.Laws.Memory.{holds-represented}
-use Rattle.tree.specs.Collapses.{Walk, TreeAndFree}
-use Rattle.tree.specs.Stores.{Stored}
-use Rattle.tree.specs.Removals.{nodes-all, clean-holds}
-use Rattle.tree.specs.Joins.{holds-stored, stored-holds}
-use Rattle.tree.specs.Operations.{shaped-exit, HasTree}
-use Rattle.tree.specs.Standing.{root-stands, root-total}
+use Rattle.tree.specs.Cleanup.{Walk, TreeAndFree}
+use Rattle.tree.specs.Stored.{Stored}
+use Rattle.tree.specs.Laws.Stored.{nodes-and-free-once, holds-stored, stored-holds}
+use Rattle.tree.specs.Laws.Cleanup.{clean-holds}
+use Rattle.tree.specs.Operations.{HasTree}
+use Rattle.tree.specs.Laws.Operations.{shaped-exit}
+use Rattle.tree.specs.Laws.Trees.{root-stands, root-total}
 use Rattle.tree_cleanup.specs.declared.Swept.{Swept}
 use Rattle.tree_cleanup.specs.Walks.{walkOf, Fits, NodeToClean, NodeCleaned}
 use Rattle.tree_cleanup.specs.Answers.{CleanedUp}
@@ -38,7 +39,7 @@ module _ (s : State) (nodes : List ℕ) where
     root-stood : TreeAndFree (x .tree) 0 (walkOf nodes dots rects (s .«free_group»)) (x .freeGroups)
     root-stood =
         let stored = holds-stored (world s nodes dots rects marks) x h in
-        (nodes-all (x .tree) (x .freeGroups) (λ k. omega (arith, stored .groupsOnce k, below-le k (x .groups))), stored .tree, stored .groups)
+        (nodes-and-free-once (x .tree) (x .freeGroups) (λ k. omega (arith, stored .groupsOnce k, below-le k (x .groups))), stored .tree, stored .groups)
 
     root-fits : Fits nodes (D (s .settings)) 0 (x .tree)
     root-fits = let r = root-stands s nodes dots rects marks x h in record { nodesIn = r .nodesIn; shallow = r .shallow; few = r .few }

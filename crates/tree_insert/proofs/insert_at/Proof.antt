@@ -1,97 +1,41 @@
 -- The splits keep the insert on its way, and the push ends it.
-use mathlib.Core.Path.{refl, sym, subst}
-use lib.ListN.{length, replicate}
 use native.Mathlib.Omega.{arith}
-use Rattle.model.specs.declared.State.{State}
-use Rattle.model.specs.Shapes.{inserted}
-use Rattle.model.specs.Layout.{world, Holds}
-use Rattle.tree_insert.specs.Growing.{Going}
-use Rattle.tree_insert.specs.Landings.{Lands, land-asks, starts-going, starts-live, landed-holds}
 use borrow.Author.Needs.{needs}
+use Rattle.tree_insert.specs.Push.{CanPush}
+use Rattle.tree_insert.specs.Laws.InsertAt.{starts-splits, starts-live, starts-push, pushed-holds}
 use Rattle.tree_insert.proofs.insert_at.Statement.{statement}
 use Rattle.tree_insert.proofs.insert_at.Tie as tie
 
--- the insert that the function was called for, once its splits are made
-gone : (c : tie.After-split-down)
-    → let pre = c .before .before .before .before .before .before .pre in let args = c .before .before .before .before .before .before .args in
-    Going (pre .shape) (args .dot) (args .state .«free_place») (c .split-down .last .0) (c .split-down .last .1 .0) (args .rects .now) (c .split-down .result .group) (c .split-down .result .node) (c .split-down .ensures .0) 0
-gone c =
-    let pre = c .before .before .before .before .before .before .pre in
-    let args = c .before .before .before .before .before .before .args in
-    c .split-down .ensures .1 (pre .shape) (args .dot) (args .state .«free_place») refl
-    (starts-going (args .state) (args .dot) (args .nodes .now) (args .dots .now) (args .rects .now) (args .leaf) (args .splits) (pre .marks) (pre .shape) (pre .starts))
-
-asks : (c : tie.After-split-down) → let args = c .before .before .before .before .before .before .args in
-    Lands (c .split-down .last .0) (c .split-down .last .1 .0) (args .rects .now) (c .split-down .result .node) (args .state .«free_place»)
-asks c =
-    let pre = c .before .before .before .before .before .before .pre in
-    let args = c .before .before .before .before .before .before .args in
-    land-asks (pre .shape) (args .dot) (args .state .«free_place») (c .split-down .last .0) (c .split-down .last .1 .0) (args .rects .now) (c .split-down .result .group) (c .split-down .result .node) (c .split-down .ensures .0)
-    (gone c) (pre .starts .room)
-
 split-down-requires : tie.Need-split-down-requires
 split-down-requires c κs =
-    let pre = c .before .before .before .before .before .pre in
-    let args = c .before .before .before .before .before .args in
-    record {
-      shape = pre .shape;
-      dot = args .dot;
-      rect = refl;
-      placeHead = args .state .«free_place»;
-      going = starts-going (args .state) (args .dot) (args .nodes .now) (args .dots .now) (args .rects .now) (args .leaf) (args .splits) (pre .marks) (pre .shape) (pre .starts);
-    }
+    let start : tie.Start = search in
+    starts-splits (start .pre .starts)
 
-cast-next-at : tie.Need-cast-next-at
-cast-next-at c = search needs
-
-next-at-requires : tie.Need-next-at-requires
-next-at-requires c κs = asks (c .before .before .before .before .before) .place
-
-push-dot-requires : tie.Need-push-dot-requires
-push-dot-requires c κs = asks (c .before .before .before .before .before .before .before .before .before)
+-- what the push asks
+push : (c : tie.After-split-down) →
+    let start : tie.Start = search in
+    CanPush (c .split-down .last .0) (c .split-down .last .1 .0) (start .args .rects .now) (c .split-down .result .node) (start .args .state .«free_place»)
+push c =
+    let start : tie.Start = search in
+    starts-push (start .pre .starts) (c .split-down .ensures)
 
 add-changed : tie.Need-add-changed
 add-changed c =
-    let args = c .before .before .before .before .before .before .before .before .before .before .before .before .before .before .before .before .before .before .before .before .before .before .args in
-    let pre = c .before .before .before .before .before .before .before .before .before .before .before .before .before .before .before .before .before .before .before .before .before .before .pre in
-    omega (arith, starts-live (args .state) (args .dot) (args .nodes .now) (args .dots .now) (args .rects .now) (args .leaf) (args .splits) (pre .marks) (pre .shape) (pre .starts))
-
-changed-requires : tie.Need-changed-requires
-changed-requires c κs = search needs
-
-same-length : tie.Need-same-length
-same-length c = search needs
-
-same-length-2 : tie.Need-same-length-2
-same-length-2 c = search needs
-
-same-length-3 : tie.Need-same-length-3
-same-length-3 c = search needs
+    let start : tie.Start = search in
+    omega (arith, starts-live (start .pre .starts))
 
 returns : tie.Need-returns
-returns c =
-    let args = c .before .before .before .before .before .before .before .before .before .before .before .before .before .before .before .before .before .before .before .before .before .before .before .args in
-    let split-down = c .before .before .before .before .before .before .before .before .before .before .before .before .before .before .before .before .before .split-down in
-    let next-at = c .before .before .before .before .before .before .before .before .before .before .before .next-at in
-    let push-dot = c .before .before .before .before .before .before .before .push-dot in
-    λ marks x S.
-    subst (λ (s′ : State). Holds (world s′ (push-dot .last .0) (push-dot .last .1 .0) (push-dot .last .1 .1 .0) (replicate (length marks) 0)) (inserted (args .dot) x)) (sym (c .changed .ensures))
-    (landed-holds (args .state) (args .dot) (args .nodes .now) (args .dots .now) (args .rects .now) (args .leaf) (args .splits) marks x S
-    (split-down .last .0) (split-down .last .1 .0) (split-down .result .group) (split-down .result .node) (split-down .ensures .0)
-    (split-down .ensures .1 x (args .dot) (args .state .«free_place») refl (starts-going (args .state) (args .dot) (args .nodes .now) (args .dots .now) (args .rects .now) (args .leaf) (args .splits) marks x S))
-    (next-at .result) (push-dot .last .0) (push-dot .last .1 .0) (push-dot .last .1 .1 .0) (next-at .ensures) (push-dot .ensures .0) (push-dot .ensures .1) (push-dot .ensures .2))
+returns c marks x begun =
+    let pushed : tie.After-push-dot = search in
+    let next : tie.After-next-at = search in
+    let split : tie.After-split-down = search in
+    let rows = pushed .push-dot .ensures in
+    pushed-holds begun (split .split-down .ensures) (next .next-at .ensures) (c .changed .ensures) (rows .0) (rows .1) (rows .2)
 
 pub insert-at-spec : {M : Type 1} → statement M
 insert-at-spec =
     tie.close
     (tie.spec
-    split-down-requires
-    cast-next-at
-    next-at-requires
-    push-dot-requires
-    add-changed
-    changed-requires
-    same-length
-    same-length-2
-    same-length-3
-    returns)
+    split-down-requires (λ c. search needs)
+    (λ c κs. let split : tie.After-split-down = search in push split .place) (λ c κs. let split : tie.After-split-down = search in push split)
+    add-changed (λ c κs. search needs) (λ c. search needs) (λ c. search needs) (λ c. search needs) returns)

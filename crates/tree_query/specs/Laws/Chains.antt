@@ -23,7 +23,7 @@ use Rattle.model.specs.Trees.{Placed}
 use Rattle.model.specs.Layout.{none}
 use Rattle.model.specs.Memory.{read, nextAt, dotAt, Chained}
 use Rattle.memory.specs.Rows.{HasPlace, HasRect}
-use Rattle.tree.specs.Standing.{InRows}
+use Rattle.tree.specs.Trees.{InRows}
 use Rattle.model.specs.declared.answers.Found.{Found}
 use Rattle.tree_query.specs.Rows.{kept, keptAll}
 use Rattle.tree_query.specs.Walks.{ids, chainHits, hitsAfter, rowWith, after, rowAfter, Left, ChainWalk, ChainWalked}

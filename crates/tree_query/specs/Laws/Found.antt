@@ -19,7 +19,7 @@ use Rattle.model.specs.Dots.{isHit}
 use Rattle.model.specs.Trees.{Placed, Tree, leaf, branch, size}
 use Rattle.model.specs.Query.{hits, opened}
 use Rattle.model.specs.declared.answers.Found.{Found}
-use Rattle.tree.specs.Standing.{nodeTotal}
+use Rattle.tree.specs.Trees.{nodeTotal}
 use Rattle.tree_query.specs.Rows.{keptAll}
 use Rattle.tree_query.specs.Walks.{ids, after, rowAfter, Left}
 use Rattle.tree_query.specs.Laws.Rows.{kept-append, keptAll-length}

@@ -20,7 +20,7 @@ use Rattle.geometry.specs.Laws.Ranges.{child-range}
 use Rattle.model.specs.Trees.{Tree, childNode, size}
 use Rattle.model.specs.Query.{hits, opened}
 use Rattle.model.specs.declared.answers.Found.{Found}
-use Rattle.tree.specs.Standing.{nodeTotal, Stands}
+use Rattle.tree.specs.Trees.{nodeTotal, TreeStands}
 use Rattle.tree_query.specs.Walks.{groupHits, groupOpened, after, Left, NodeWalk, NodeWalked, GroupWalk, GroupWalked}
 use Rattle.tree_query.specs.Laws.Children.{join-step, sum-step}
 use Rattle.tree_query.specs.Laws.Found.{left-none, left-then, left-length, hits-size, opened-total}
@@ -49,7 +49,7 @@ module _ {q : AABB} {cell : CenteredAABB} {quadrants : Quadrants} {nodes dots : 
   abbrev tree : Tree
   tree = w .children child
 
-  child-stands : Stands nodes dots rects levels (childNode (w .group) child) tree
+  child-stands : TreeStands nodes dots rects levels (childNode (w .group) child) tree
   child-stands = w .stands child (omega (arith, w .small)) (omega arith)
 
   -- what the code's bit says of the child
@@ -94,7 +94,7 @@ module _ {q : AABB} {cell : CenteredAABB} {quadrants : Quadrants} {nodes dots : 
       let node : first + child ≡ childNode (w .group) child = omega (arith, w .head) in
       record {
         tree = tree;
-        stands = subst (λ (a : ℕ). Stands nodes dots rects levels a tree) (sym node) child-stands;
+        stands = subst (λ (a : ℕ). TreeStands nodes dots rects levels a tree) (sym node) child-stands;
         grows = record {
           hits = omega (arith, w .grows .hits, sum-step (λ i. size (w .children i)) left some);
           opened = omega (arith, w .grows .opened, sum-step (λ i. nodeTotal (w .children i)) left some);
@@ -106,12 +106,12 @@ module _ {q : AABB} {cell : CenteredAABB} {quadrants : Quadrants} {nodes dots : 
   module _ {below : CenteredAABB} (b : below ≡ childCell cell child) (row₁ : List ℕ) (f₁ : Found)
       (node : NodeWalked q below nodes dots rects room row found (first + child) levels row₁ f₁) where
     -- what the child's walk leaves, for the children of any tree that stands there
-    child-left : (g : ℕ) (f : ℕ → Tree) (n : NodeData) → first ≡ childNode g 0 → Stands nodes dots rects levels (childNode g child) (f child)
+    child-left : (g : ℕ) (f : ℕ → Tree) (n : NodeData) → first ≡ childNode g 0 → TreeStands nodes dots rects levels (childNode g child) (f child)
         → n .cell ≡ cell → Left room row found (hits q (childData n child) (f child)) (opened q (childData n child) (f child)) row₁ f₁
     unfolding NodeWalked childData
     child-left g f n h s e =
         let at : first + child ≡ childNode g child = omega (arith, h) in
-        node (f child) (childData n child) (subst (λ (a : ℕ). Stands nodes dots rects levels a (f child)) (sym at) s)
+        node (f child) (childData n child) (subst (λ (a : ℕ). TreeStands nodes dots rects levels a (f child)) (sym at) s)
         (ap (λ (d : CenteredAABB). childCell d child) e ∙ sym b)
 
     some-data : NodeData

@@ -19,7 +19,7 @@ use Rattle.model.specs.Laws.Sums.{sumBelow-le}
 use Rattle.model.specs.Trees.{Tree, leaf, branch, childNode}
 use Rattle.model.specs.Query.{leavesOf, leafCount}
 use Rattle.model.specs.Laws.Query.{leaves-length}
-use Rattle.tree.specs.Standing.{nodeTotal}
+use Rattle.tree.specs.Trees.{nodeTotal}
 use Rattle.tree_query.specs.Rows.{keptAll}
 use Rattle.tree_query.specs.Walks.{sumLast}
 use Rattle.tree_query.specs.Leaves.{LeafStands, groupLeaves, LeavesLeft, LeafWalk, LeafWalked, LeafGroup, LeafGroupWalked}

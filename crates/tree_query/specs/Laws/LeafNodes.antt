@@ -18,7 +18,8 @@ use Rattle.model.specs.Layout.{branchMark}
 use Rattle.model.specs.Memory.{firstAt, countAt}
 use Rattle.memory.specs.declared.node.Node.{Node}
 use Rattle.memory.specs.Nodes.{nodeAt}
-use Rattle.tree.specs.Standing.{nodeTotal, not-branch, is-branch, mark-no-leaf, shallow-branch}
+use Rattle.tree.specs.Trees.{nodeTotal}
+use Rattle.tree.specs.Laws.Trees.{not-branch, is-branch, mark-no-leaf, shallow-branch}
 use Rattle.tree_query.specs.Rows.{kept, keptAll}
 use Rattle.tree_query.specs.Leaves.{wordsOf, LeafStands, LeavesLeft, LeafWalk, LeafWalked, LeafGroup, LeafGroupWalked}
 use Rattle.tree_query.specs.Laws.Children.{join-four}

@@ -26,7 +26,8 @@ use Rattle.model.specs.Calls.{tooMany, answered, exit, leavesRule}
 use Rattle.model.specs.Laws.Query.{leaves-length}
 use Rattle.model.specs.Laws.Layout.{holds-settings}
 use Rattle.tree.specs.Operations.{HasTree}
-use Rattle.tree.specs.Standing.{Stands, root-stands, root-total}
+use Rattle.tree.specs.Trees.{TreeStands}
+use Rattle.tree.specs.Laws.Trees.{root-stands, root-total}
 use Rattle.tree_query.specs.Rows.{keptAll}
 use Rattle.tree_query.specs.Leaves.{Shaped, LeafStands, LeafWalk, LeafWalked}
 use Rattle.tree_query.specs.Answers.{LeavesMet, LeavesListed}
@@ -38,7 +39,7 @@ shaped : (nodes dots : List ℕ) (rects : List ℤ) (a : ℕ) (t : Tree) → Rep
 shaped nodes dots rects a (leaf chain) r = r .0
 shaped nodes dots rects a (branch g f) r = (r .0, r .1, λ i b. shaped nodes dots rects (childNode g i) (f i) (r .2 i b))
 
-leaf-stands : (nodes dots : List ℕ) (rects : List ℤ) (levels a : ℕ) (t : Tree) → Stands nodes dots rects levels a t → LeafStands nodes levels a t
+leaf-stands : (nodes dots : List ℕ) (rects : List ℤ) (levels a : ℕ) (t : Tree) → TreeStands nodes dots rects levels a t → LeafStands nodes levels a t
 leaf-stands nodes dots rects levels a t s =
     record { shaped = shaped nodes dots rects a t (s .represents); shallow = s .shallow; nodesIn = s .nodesIn; few = s .few }
 

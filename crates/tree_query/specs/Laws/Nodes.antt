@@ -23,7 +23,8 @@ use Rattle.model.specs.Memory.{read, firstAt, countAt, nextAt, Chained}
 use Rattle.model.specs.declared.answers.Found.{Found}
 use Rattle.memory.specs.declared.node.Node.{Node}
 use Rattle.memory.specs.Nodes.{nodeAt}
-use Rattle.tree.specs.Standing.{nodeTotal, Stands, not-branch, is-branch, mark-no-leaf, shallow-branch}
+use Rattle.tree.specs.Trees.{nodeTotal, TreeStands}
+use Rattle.tree.specs.Laws.Trees.{not-branch, is-branch, mark-no-leaf, shallow-branch}
 use Rattle.tree_query.specs.Walks.{sumLast, chainHits, after, rowAfter, Left, CanGrow}
 use Rattle.tree_query.specs.Walks.{ChainWalk, ChainWalked, NodeWalk, NodeWalked, GroupWalk, GroupWalked}
 use Rattle.tree_query.specs.Laws.Children.{join-five}
@@ -39,8 +40,8 @@ module _ (nodes nodes′ dots : List ℕ) (rects : List ℤ) where
   chain-rows h (d ∷ ds) s = (s .0, s .1, chain-rows (nextAt dots (d .place)) ds (s .2))
 
 -- a child stands a level lower
-child-stands : {nodes dots : List ℕ} {rects : List ℤ} {levels a g : ℕ} {f : ℕ → Tree} → Stands nodes dots rects levels a (branch g f)
-    → (i : ℕ) → i < 5 → Stands nodes dots rects (levels - 1) (childNode g i) (f i)
+child-stands : {nodes dots : List ℕ} {rects : List ℤ} {levels a g : ℕ} {f : ℕ → Tree} → TreeStands nodes dots rects levels a (branch g f)
+    → (i : ℕ) → i < 5 → TreeStands nodes dots rects (levels - 1) (childNode g i) (f i)
 child-stands {levels = levels} {g = g} {f = f} s i b =
     record {
       represents = s .represents .2 i b;
@@ -59,7 +60,7 @@ module _ (nodes dots : List ℕ) (rects : List ℤ) (room : ℕ) (row : List ℕ
         → ChainWalk dots rects room row (opening found) (node .first) (node .count)
     leaf-asks w = rw words (go (w .tree) (w .stands) (w .grows))
       where
-        go : (t : Tree) → Stands nodes dots rects levels a t → CanGrow found (size t) (nodeTotal t)
+        go : (t : Tree) → TreeStands nodes dots rects levels a t → CanGrow found (size t) (nodeTotal t)
             → ChainWalk dots rects room row (opening found) (firstAt nodes a) (countAt nodes a)
         go (leaf chain) s c =
             record {
@@ -77,7 +78,7 @@ module _ (nodes dots : List ℕ) (rects : List ℤ) (room : ℕ) (row : List ℕ
     unfolding ChainWalked NodeWalked after rowAfter
     leaf-gives row′ r w = go
       where
-        go : (t : Tree) (d : NodeData) → Stands nodes dots rects levels a t → d .cell ≡ cell
+        go : (t : Tree) (d : NodeData) → TreeStands nodes dots rects levels a t → d .cell ≡ cell
             → Left room row found (hits q d t) (opened q d t) row′ r
         go (leaf chain) d s e =
             let l = (rw words at w) chain (chain-rows nodes [] dots rects (firstAt nodes a) chain (s .represents .1)) (sym (s .represents .0)) in
@@ -91,13 +92,13 @@ module _ (nodes dots : List ℕ) (rects : List ℤ) (room : ℕ) (row : List ℕ
   -- ---- a branch
 
   module _ (n : not b ≡ false) where
-    no-leaf : (chain : List Placed) → Stands nodes dots rects levels a (leaf chain) → ⊥
+    no-leaf : (chain : List Placed) → TreeStands nodes dots rects levels a (leaf chain) → ⊥
     no-leaf chain s = mark-no-leaf chain (s .few) (s .represents .0) (is-branch nodes a words told n)
 
     pub branch-level : NodeWalk cell nodes dots rects room row found a levels → 1 ≤ levels
     branch-level w = go (w .tree) (w .stands)
       where
-        go : (t : Tree) → Stands nodes dots rects levels a t → 1 ≤ levels
+        go : (t : Tree) → TreeStands nodes dots rects levels a t → 1 ≤ levels
         go (leaf chain) s = absurd (no-leaf chain s)
         go (branch g f) s = shallow-branch levels g f (s .shallow) .0
 
@@ -105,7 +106,7 @@ module _ (nodes dots : List ℕ) (rects : List ℤ) (room : ℕ) (row : List ℕ
         → GroupWalk q cell quadrants nodes dots rects room row (opening found) (node .first) (levels - 1) 5
     branch-asks quadrants e w = rw words (go (w .tree) (w .stands) (w .grows))
       where
-        go : (t : Tree) → Stands nodes dots rects levels a t → CanGrow found (size t) (nodeTotal t)
+        go : (t : Tree) → TreeStands nodes dots rects levels a t → CanGrow found (size t) (nodeTotal t)
             → GroupWalk q cell quadrants nodes dots rects room row (opening found) (firstAt nodes a) (levels - 1) 5
         go (leaf chain) s c = absurd (no-leaf chain s)
         go (branch g f) s c =
@@ -127,7 +128,7 @@ module _ (nodes dots : List ℕ) (rects : List ℤ) (room : ℕ) (row : List ℕ
     unfolding GroupWalked NodeWalked after rowAfter
     branch-gives row′ r w = go
       where
-        go : (t : Tree) (d : NodeData) → Stands nodes dots rects levels a t → d .cell ≡ cell
+        go : (t : Tree) (d : NodeData) → TreeStands nodes dots rects levels a t → d .cell ≡ cell
             → Left room row found (hits q d t) (opened q d t) row′ r
         go (leaf chain) d s e = absurd (no-leaf chain s)
         go (branch g f) d s e =

@@ -28,7 +28,7 @@ use Rattle.model.specs.Laws.Memory.{holds-represented}
 use Rattle.model.specs.Laws.Lists.{length-map}
 use Rattle.model.specs.Laws.Listing.{listed-le}
 use Rattle.tree.specs.Operations.{IsTree}
-use Rattle.tree.specs.Standing.{root-stands, root-total}
+use Rattle.tree.specs.Laws.Trees.{root-stands, root-total}
 use Rattle.model.specs.declared.answers.Found.{Found}
 use Rattle.tree_query.specs.Walks.{ids, after, rowAfter, NodeWalk, NodeWalked}
 use Rattle.tree_query.specs.Answers.{Met, Counted, Queried}

@@ -1,129 +1,83 @@
 -- The code looks up what the laws of the remove speak of, and its stores are theirs.
-use mathlib.Core.Path.{_≡_, sym, subst}
-use mathlib.Core.List.{[]}
-use mathlib.Core.Bool.{true}
-use lib.ListN.{length, replicate}
 use native.Mathlib.Omega.{arith}
-use Rattle.model.specs.declared.State.{State}
-use Rattle.model.specs.Layout.{none, world}
-use Rattle.model.specs.Calls.{answered, exit, carriedOut, removeRule}
-use Rattle.tree.specs.Routes.{holds-way}
-use Rattle.tree.specs.Leaves.{leads-has}
-use Rattle.tree_remove.specs.Removes.{Looked, Takes, leads-searchable, look-takes, look-no, look-yes}
 use borrow.Author.Needs.{needs}
+use Rattle.model.specs.Layout.{none}
+use Rattle.tree.specs.Laws.Routes.{holds-way}
+use Rattle.tree.specs.Laws.Leaves.{leads-has}
+use Rattle.tree_remove.specs.Laws.Answers.{Looked, Takes, leads-searchable, look-takes, look-no, look-yes}
 use Rattle.tree_remove.proofs.remove_dot.Statement.{statement}
 use Rattle.tree_remove.proofs.remove_dot.Tie as tie
 
 -- what the code has looked up
-looked : (c : tie.After-find-dot) → let args = c .before .before .before .before .before .before .before .before .before .args in
-    Looked (args .state) (args .nodes .now) (args .dots .now) (args .id) (args .rect) (c .before .before .before .before .find-leaf .result) (c .before .before .node-at .result) (c .find-dot .result)
-looked c = record { leads = c .before .before .before .before .find-leaf .ensures; words = c .before .before .node-at .ensures; finds = c .find-dot .ensures }
+looked : (c : tie.After-find-dot) →
+    let read : tie.After-node-at = search in
+    let leaf : tie.After-find-leaf = search in
+    let start : tie.Start = search in
+    let a = start .args in
+    Looked (a .state) (a .nodes .now) (a .dots .now) (a .id) (a .rect) (leaf .find-leaf .result) (read .node-at .result) (c .find-dot .result)
+unfolding none
+looked c = search
 
-takes : (c : tie.Else1) → let args = c .before .before .before .before .before .before .before .before .before .before .before .args in let find-leaf = c .before .before .before .before .before .before .find-leaf in let find-dot = c .before .before .find-dot in
-    ¬ (find-dot .result .place ≡ none)
-    → Takes (args .state) (args .nodes .now) (args .dots .now) (args .rects .now) (find-leaf .result) (c .before .before .before .before .node-at .result) (find-dot .result)
+-- what the stores ask, where a dot was found
+takes : (c : tie.Else1) →
+    let found : tie.After-find-dot = search in
+    let read : tie.After-node-at = search in
+    let leaf : tie.After-find-leaf = search in
+    let start : tie.Start = search in
+    let a = start .args in
+    Takes (a .state) (a .nodes .now) (a .dots .now) (a .rects .now) (leaf .find-leaf .result) (read .node-at .result) (found .find-dot .result)
+unfolding none
 takes c =
-    let args = c .before .before .before .before .before .before .before .before .before .before .before .args in
-    let pre = c .before .before .before .before .before .before .before .before .before .before .before .pre in
-    let find-leaf = c .before .before .before .before .before .before .find-leaf in
-    look-takes (args .state) (args .nodes .now) (args .dots .now) (args .rects .now) (pre .marks) (pre .shape) (pre .holds)
-    (args .id) (args .rect) (find-leaf .result) (c .before .before .before .before .node-at .result) (c .before .before .find-dot .result) (looked (c .before .before))
-
-find-leaf-requires : tie.Need-find-leaf-requires
-find-leaf-requires c κs = holds-way _ _ (c .before .before .before .before .pre .holds)
+    let found : tie.After-find-dot = search in
+    let start : tie.Start = search in
+    look-takes (start .pre .holds) (looked found) (c .if1 .left)
 
 node-at-requires : tie.Need-node-at-requires
 node-at-requires c κs =
-    let pre = c .before .before .before .before .before .before .pre in
-    let args = c .before .before .before .before .before .before .args in
-    leads-has _ _ (pre .holds) (args .rect) (c .before .find-leaf .result) (c .before .find-leaf .ensures)
+    let start : tie.Start = search in
+    leads-has (start .pre .holds) (start .args .rect) (c .before .find-leaf .ensures)
 
 find-dot-requires : tie.Need-find-dot-requires
 find-dot-requires c κs =
-    let pre = c .before .before .before .before .before .before .before .before .pre in
-    let args = c .before .before .before .before .before .before .before .before .args in
-    let find-leaf = c .before .before .before .find-leaf in
-    leads-searchable _ _ (pre .holds) (args .rect) (find-leaf .result) (find-leaf .ensures) (c .before .node-at .result) (c .before .node-at .ensures)
-
-same-length : tie.Need-same-length
-same-length c = search needs
-
-same-length-2 : tie.Need-same-length-2
-same-length-2 c = search needs
+    let leaf : tie.After-find-leaf = search in
+    let start : tie.Start = search in
+    leads-searchable (start .pre .holds) (start .args .rect) (leaf .find-leaf .ensures) (c .before .node-at .ensures)
 
 returns : tie.Need-returns
 unfolding none
-returns c =
-    let args = c .before .before .before .before .before .before .before .before .before .before .before .args in
-    let find-leaf = c .before .before .before .before .before .before .find-leaf in
-    λ marks x h. look-no (args .state) (args .nodes .now) (args .dots .now) (args .rects .now) marks x h (args .id) (args .rect) (find-leaf .result) (c .before .before .before .before .node-at .result) (c .before .before .find-dot .result) (looked (c .before .before)) (c .if1 .taken)
+returns c marks x h =
+    let found : tie.After-find-dot = search in
+    look-no h (looked found) (c .if1 .taken)
 
 unlink-requires : tie.Need-unlink-requires
 unfolding none
-unlink-requires c κs = takes (c .before .before) (c .before .before .if1 .left) .unlinks
-
-cast-free-place : tie.Need-cast-free-place
-cast-free-place c = search needs
+unlink-requires c κs = let found : tie.Else1 = search in takes found .unlinks
 
 free-place-requires : tie.Need-free-place-requires
-unfolding none
 free-place-requires c κs =
-    let if1 = c .before .before .before .before .before .before .before .before .before .if1 in
-    let unlink = c .before .before .before .before .before .before .unlink in
-    let t = takes (c .before .before .before .before .before .before .before .before .before) (if1 .left) in (omega (arith, t .unlinks .2, unlink .kept), t .rect)
+    let found : tie.Else1 = search in
+    let stores = takes found in
+    (omega arith, stores .rect)
 
 sub-changed : tie.Need-sub-changed
-unfolding none
-sub-changed c =
-    let if1 = c .before .before .before .before .before .before .before .before .before .before .before .before .before .before .if1 in
-    takes (c .before .before .before .before .before .before .before .before .before .before .before .before .before .before) (if1 .left) .live
-
-changed-requires : tie.Need-changed-requires
-changed-requires c κs = search needs
-
-same-length-3 : tie.Need-same-length-3
-same-length-3 c = search needs
-
-same-length-4 : tie.Need-same-length-4
-same-length-4 c = search needs
-
-same-length-5 : tie.Need-same-length-5
-same-length-5 c = search needs
+sub-changed c = let found : tie.Else1 = search in takes found .live
 
 returns-2 : tie.Need-returns-2
 unfolding none
-returns-2 c =
-    let args = c .before .before .before .before .before .before .before .before .before .before .before .before .before .before .before .before .before .before .before .before .before .before .before .before .before .before .args in
-    let find-leaf = c .before .before .before .before .before .before .before .before .before .before .before .before .before .before .before .before .before .before .before .before .before .find-leaf in
-    let node-at = c .before .before .before .before .before .before .before .before .before .before .before .before .before .before .before .before .before .before .before .node-at in
-    let find-dot = c .before .before .before .before .before .before .before .before .before .before .before .before .before .before .before .before .before .find-dot in
-    let if1 = c .before .before .before .before .before .before .before .before .before .before .before .before .before .before .before .if1 in
-    let unlink = c .before .before .before .before .before .before .before .before .before .before .before .before .unlink in
-    let free-place = c .before .before .before .before .before .free-place in
-    let t = c .changed in
-    λ marks x h.
-    subst (λ (s′ : State). exit (world s′ (unlink .last .0) (free-place .last .0) (free-place .last .1 .0) (replicate (length marks) 0)) [] (answered true)
-    ≡ carriedOut (world (args .state) (args .nodes .now) (args .dots .now) (args .rects .now) marks) [] (removeRule (args .id) (args .rect) x)) (sym (t .ensures))
-    (look-yes (args .state) (args .nodes .now) (args .dots .now) (args .rects .now) marks x h (args .id) (args .rect) (find-leaf .result) (node-at .result) (find-dot .result)
-    (looked (c .before .before .before .before .before .before .before .before .before .before .before .before .before .before .before .before .before)) (if1 .left) (unlink .last .0) (unlink .last .1 .0) (free-place .last .0) (free-place .last .1 .0)
-    (unlink .ensures .0) (unlink .ensures .1) (free-place .ensures .0) (free-place .ensures .1))
+returns-2 c marks x h =
+    let freed : tie.After-free-place = search in
+    let unlinked : tie.After-unlink = search in
+    let found : tie.Else1 = search in
+    look-yes h (looked (found .before .before)) (found .if1 .left)
+    (unlinked .unlink .ensures .0) (unlinked .unlink .ensures .1) (freed .free-place .ensures .0) (freed .free-place .ensures .1) (c .changed .ensures)
 
 pub remove-dot-spec : {M : Type 1} → statement M
 remove-dot-spec =
     tie.close
     (tie.spec
-    find-leaf-requires
-    node-at-requires
-    find-dot-requires
-    same-length
-    same-length-2
-    returns
-    unlink-requires
-    cast-free-place
-    free-place-requires
-    sub-changed
-    changed-requires
-    same-length-3
-    same-length-4
-    same-length-5
-    returns-2)
+    (λ c κs. search holds-way) node-at-requires find-dot-requires
+    -- no dot is found
+    (λ c. search needs) (λ c. search needs) returns
+    -- the dot that was found goes
+    unlink-requires (λ c. search needs) free-place-requires sub-changed (λ c κs. search needs)
+    (λ c. search needs) (λ c. search needs) (λ c. search needs) returns-2)

@@ -1,10 +1,8 @@
--- A walk whose invariant is that what is wanted from here on is there if the whole is.
-use mathlib.Core.Path.{refl, ap}
+-- A walk whose invariant is that what is wanted from here on is there if the whole is; the groups wanted are counted.
 use native.Mathlib.Omega.{arith}
 use Rattle.model.specs.Layout.{none}
-use Rattle.memory.specs.declared.node.Node.{Node}
 use Rattle.memory.specs.Rows.{HasNode}
-use Rattle.tree_insert.specs.FreeLists.{Walking, free-here, free-on, free-short, free-enough}
+use Rattle.tree_insert.specs.Laws.FreeGroups.{Walking, walk-start, walk-here, walk-on, walk-short, walk-enough}
 use Rattle.tree_insert.proofs.needed.has_free.Statement.{statement}
 use Rattle.tree_insert.proofs.needed.has_free.Tie as tie
 
@@ -14,58 +12,34 @@ Inv-loop nodes head wanted at₀ left₀ at left = Walking nodes at₀ left₀ a
 abbrev μ-loop : tie.MeasureT-loop
 μ-loop nodes head wanted at₀ left₀ at left = left
 
-here : (c : tie.Else1 Inv-loop μ-loop) → HasNode (c .before .before .before .before .args .nodes .now) (c .before .before .loop .at)
+-- where the list goes on, the next group is there
+here : (c : tie.Else1 Inv-loop μ-loop) →
+    let head : tie.At-loop Inv-loop μ-loop = search in
+    let start : tie.Start Inv-loop μ-loop = search in
+    HasNode (start .args .nodes .now) (head .loop .at)
 unfolding none
 here c =
-    let pre = c .before .before .before .before .pre in
-    let loop = c .before .before .loop in
-    let w = loop .inv (pre .free) (pre .listed) in free-here (c .before .before .before .before .args .nodes .now) (loop .at) (w .0) (w .1) (c .if1 .left)
-
-loop-holds : tie.Need-loop-holds Inv-loop μ-loop
-loop-holds c = λ free f. (free, f, refl)
+    let head : tie.At-loop Inv-loop μ-loop = search in
+    let start : tie.Start Inv-loop μ-loop = search in
+    walk-here (head .loop .inv) (start .pre) (c .if1 .left)
 
 returns : tie.Need-returns Inv-loop μ-loop
 unfolding none
-returns c =
-    let args = c .before .before .before .before .args in
-    let loop = c .before .before .loop in
-    free-short (args .nodes .now) (args .head) (args .wanted) (loop .at) (loop .left) (loop .inv) (c .before .loop-test .taken) (c .if1 .taken)
-
-cast-node-at : tie.Need-cast-node-at Inv-loop μ-loop
-cast-node-at c = omega (arith, here c)
-
-node-at-requires : tie.Need-node-at-requires Inv-loop μ-loop
-node-at-requires c κs = here c
-
-sub-left : tie.Need-sub-left Inv-loop μ-loop
-sub-left c = omega (arith, c .before .before .loop-test .taken)
-
-loop-less : tie.Need-loop-less Inv-loop μ-loop
-loop-less c = omega (arith, c .before .before .loop-test .taken)
+returns c = walk-short (c .before .before .loop .inv) (c .before .loop-test .taken) (c .if1 .taken)
 
 loop-again : tie.Need-loop-again Inv-loop μ-loop
 unfolding none
 loop-again c =
-    let args = c .before .before .before .before .before .args in
-    let loop = c .before .before .before .loop in
-    free-on (args .nodes .now) (args .head) (args .wanted) (loop .at) (loop .left) (c .node-at .result .first) (loop .inv) (c .before .before .loop-test .taken) (c .before .if1 .left) (ap (λ (v : Node). v .first) (c .node-at .ensures))
-
-returns-2 : tie.Need-returns-2 Inv-loop μ-loop
-returns-2 c =
-    let args = c .before .before .before .args in
-    free-enough (args .nodes .now) (args .head) (args .wanted) (c .before .loop .at) (c .before .loop .left) (c .before .loop .inv) (omega (arith, c .loop-test .left))
+    let turn : tie.In-loop Inv-loop μ-loop = search in
+    walk-on (turn .before .loop .inv) (turn .loop-test .taken) (c .before .if1 .left) (c .node-at .ensures)
 
 pub has-free-spec : {M : Type 1} → statement M
 has-free-spec =
     tie.close
-    (tie.spec
-    Inv-loop
-    μ-loop
-    loop-holds
+    (tie.spec Inv-loop μ-loop (λ c. walk-start)
+    -- the list ends
     returns
-    cast-node-at
-    node-at-requires
-    sub-left
-    loop-less
-    loop-again
-    returns-2)
+    -- it goes on
+    (λ c. let n = here c in omega arith) (λ c κs. here c) (λ c. omega arith) (λ c. omega arith) loop-again
+    -- none is wanted any more
+    (λ c. walk-enough (c .before .loop .inv) (c .loop-test .left)))

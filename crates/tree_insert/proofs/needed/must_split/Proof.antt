@@ -6,13 +6,11 @@ use borrow.Author.Needs.{needs}
 use Rattle.tree_insert.proofs.needed.must_split.Statement.{statement}
 use Rattle.tree_insert.proofs.needed.must_split.Tie as tie
 
-can-split-further-requires : tie.Need-can-split-further-requires
-can-split-further-requires c κs = search needs
-
 returns : tie.Need-returns
 returns c =
     let args = c .before .before .args in
     ap (λ (b : Bool). b && leb (args .settings .«leaf_limit») (args .count)) (c .before .can-split-further .ensures)
 
 pub must-split-spec : {M : Type 1} → statement M
-must-split-spec = tie.close (tie.spec can-split-further-requires returns)
+must-split-spec = tie.close (tie.spec
+    (λ c κs. search needs) returns)

@@ -1,112 +1,62 @@
 -- A loop whose invariant is that the splits counted and those of the leaf reached are the splits of the whole; a node's depth bounds its turns.
-use mathlib.Core.Path.{_≡_, sym, _∙_, subst}
-use mathlib.Core.Bool.{true, false, _&&_}
-use Prim.Native.Nat.{_+_, _≤_, _<_}
 use native.Mathlib.Omega.{arith}
-use lib.Dec.{leb}
 use borrow.Author.Needs.{needs}
-use Rattle.geometry.specs.declared.node_data.NodeData.{NodeData}
-use Rattle.geometry.specs.Cells.{InRange, childData, maySplit}
-use Rattle.geometry.specs.Laws.Ranges.{child-range}
-use Rattle.tree.specs.Routes.{stepsLeft, steps-most, steps-fall}
-use Rattle.tree_insert.specs.Counting.{CountedAll, need-start, need-above, need-on, need-done}
+use Rattle.tree.specs.Laws.Descent.{stepsLeft, steps-most}
+use Rattle.tree_insert.specs.Laws.SplitsNeeded.{Counting, need-start, need-depth, need-fall, need-on, need-done}
 use Rattle.tree_insert.proofs.needed.splits_needed.Statement.{statement}
 use Rattle.tree_insert.proofs.needed.splits_needed.Tie as tie
 
 abbrev Inv-loop : tie.InvT-loop
 Inv-loop settings dots rects chain rect reached₀ bounds₀ count₀ splits₀ reached bounds count splits =
-    InRange (reached .cell) × (splits + stepsLeft reached ≤ stepsLeft reached₀) × CountedAll settings dots rects chain reached₀ rect reached bounds count splits
+    Counting settings dots rects chain reached₀ rect reached bounds count splits
 
 abbrev μ-loop : tie.MeasureT-loop
 μ-loop settings dots rects chain rect reached₀ bounds₀ count₀ splits₀ reached bounds count splits = stepsLeft reached
 
--- the leaf reached is full and may split
-full : (c : tie.Then1 Inv-loop μ-loop) → let args = c .before .before .before .before .before .args in let loop = c .before .before .loop in
-    maySplit (args .settings) (loop .reached) && leb (args .settings .«leaf_limit») (loop .count) ≡ true
-full c = sym (c .before .must-split .ensures) ∙ c .if1 .taken
-
-above : (c : tie.Then1 Inv-loop μ-loop) → let loop = c .before .before .loop in
-    (loop .reached .«is_child_0» ≡ false) × (loop .reached .depth < 255)
-above c =
-    let args = c .before .before .before .before .before .args in
-    let loop = c .before .before .loop in
-    need-above (args .settings) (args .dots .now) (args .rects .now) (args .chain) (args .node-data) (args .rect) (loop .reached) (loop .bounds) (loop .count) (loop .splits)
-    (loop .inv .2) (c .before .before .before .before .before .pre .settings) (full c)
-
-falls : (c : tie.After-child Inv-loop μ-loop) → stepsLeft (c .child .result) < stepsLeft (c .before .before .before .before .before .before .loop .reached)
-falls c =
-    let loop = c .before .before .before .before .before .before .loop in
-    let a = above (c .before .before .before .before) in
-    subst (λ (n : NodeData). stepsLeft n < stepsLeft (loop .reached)) (sym (c .child .ensures)) (steps-fall (loop .reached) (c .before .before .route .result) (a .0) (a .1))
-
-all-requires : tie.Need-all-requires Inv-loop μ-loop
-all-requires c κs = search needs
-
-loop-holds : tie.Need-loop-holds Inv-loop μ-loop
-loop-holds c =
-    let args = c .before .before .args in
-    (c .before .before .pre .range, omega arith, need-start (args .settings) (args .dots .now) (args .rects .now) (args .chain) (args .node-data) (args .rect) (c .all .result) (c .all .ensures))
-
-must-split-requires : tie.Need-must-split-requires Inv-loop μ-loop
-must-split-requires c κs = search needs
-
-route-requires : tie.Need-route-requires Inv-loop μ-loop
-route-requires c κs = search needs
-
-below-requires : tie.Need-below-requires Inv-loop μ-loop
-below-requires c κs = search needs
-
 child-requires : tie.Need-child-requires Inv-loop μ-loop
-child-requires c κs = (c .before .before .before .before .before .loop .inv .0, omega (arith, above (c .before .before .before) .1))
+child-requires c κs =
+    let full : tie.Then1 Inv-loop μ-loop = search in
+    let head : tie.At-loop Inv-loop μ-loop = search in
+    let start : tie.Start Inv-loop μ-loop = search in
+    (head .loop .inv .range, omega (arith, need-depth (head .loop .inv) (start .pre) (full .before .must-split .ensures) (full .if1 .taken)))
 
 count-within-requires : tie.Need-count-within-requires Inv-loop μ-loop
 count-within-requires c κs =
-    let pre = c .before .before .before .before .before .before .before .before .before .pre in
-    record { chain = pre .chain; standing = pre .standing }
+    let start : tie.Start Inv-loop μ-loop = search in
+    record { chain = start .pre .chain; stands = start .pre .stands }
 
 add-splits : tie.Need-add-splits Inv-loop μ-loop
 add-splits c =
-    let args = c .before .before .before .before .before .before .before .before .before .before .args in
-    let loop = c .before .before .before .before .before .before .before .loop in
-    omega (arith, loop .inv .1, steps-most (args .node-data))
+    let head : tie.At-loop Inv-loop μ-loop = search in
+    let start : tie.Start Inv-loop μ-loop = search in
+    omega (arith, head .loop .inv .few, steps-most (start .args .node-data))
 
 loop-less : tie.Need-loop-less Inv-loop μ-loop
-loop-less c = falls (c .before)
+loop-less c =
+    let full : tie.Then1 Inv-loop μ-loop = search in
+    let head : tie.At-loop Inv-loop μ-loop = search in
+    let start : tie.Start Inv-loop μ-loop = search in
+    need-fall (head .loop .inv) (start .pre) (full .before .must-split .ensures) (full .if1 .taken) _ (c .before .child .ensures)
 
 loop-again : tie.Need-loop-again Inv-loop μ-loop
-unfolding childData
 loop-again c =
-    let args = c .before .before .before .before .before .before .before .before .before .before .args in
-    let pre = c .before .before .before .before .before .before .before .before .before .before .pre in
-    let loop = c .before .before .before .before .before .before .before .loop in
-    let route = c .before .before .before .route in
-    let below = c .before .before .below in (
-      subst (λ (n : NodeData). InRange (n .cell)) (sym (c .before .child .ensures)) (child-range _ _ (loop .inv .0)),
-      omega (arith, falls (c .before), loop .inv .1),
-      need-on (args .settings) (args .dots .now) (args .rects .now) (args .chain) (args .node-data) (args .rect) (loop .reached) (loop .bounds) (loop .count) (loop .splits) (loop .inv .2) (pre .settings) (full (c .before .before .before .before .before))
-          (route .result) (c .before .child .result) (below .result) (c .count-within .result) (route .ensures) (c .before .child .ensures) (below .ensures) (c .count-within .ensures),
-    )
+    let below : tie.After-below Inv-loop μ-loop = search in
+    let full : tie.Then1 Inv-loop μ-loop = search in
+    let head : tie.At-loop Inv-loop μ-loop = search in
+    let start : tie.Start Inv-loop μ-loop = search in
+    need-on (head .loop .inv) (start .pre) (full .before .must-split .ensures) (full .if1 .taken)
+    (below .before .route .ensures) (c .before .child .ensures) (below .below .ensures) (c .count-within .ensures)
 
 returns : tie.Need-returns Inv-loop μ-loop
 returns c =
-    let args = c .before .before .before .before .before .args in
-    let loop = c .before .before .loop in
-    need-done (args .settings) (args .dots .now) (args .rects .now) (args .chain) (args .node-data) (args .rect) (loop .reached) (loop .bounds) (loop .count) (loop .splits) (loop .inv .2) (c .before .before .before .before .before .pre .settings) (sym (c .before .must-split .ensures) ∙ c .if1 .left)
+    let head : tie.At-loop Inv-loop μ-loop = search in
+    let start : tie.Start Inv-loop μ-loop = search in
+    need-done (head .loop .inv) (start .pre) (c .before .must-split .ensures) (c .if1 .left)
 
 pub splits-needed-spec : {M : Type 1} → statement M
 splits-needed-spec =
     tie.close
-    (tie.spec
-    Inv-loop
-    μ-loop
-    all-requires
-    loop-holds
-    must-split-requires
-    route-requires
-    below-requires
-    child-requires
-    count-within-requires
-    add-splits
-    loop-less
-    loop-again
-    returns)
+    (tie.spec Inv-loop μ-loop
+    (λ c κs. search needs) (λ c. let start : tie.Start Inv-loop μ-loop = search in need-start (start .pre) (c .all .ensures))
+    (λ c κs. search needs) (λ c κs. search needs) (λ c κs. search needs) child-requires count-within-requires
+    add-splits loop-less loop-again returns)

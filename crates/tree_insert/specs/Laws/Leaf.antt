@@ -3,47 +3,49 @@
 --     countable    the splits can be counted there
 --     needed-is    what is counted is the splits needed
 --     listed-free, enough-is       the free groups can be walked along, and are told to be enough
---     go-start     the insert is on its way
+--     inserting-start      the insert is on its way
 use mathlib.Core.Path.{_≡_, refl, ap, sym, _∙_, subst}
 use mathlib.Core.List.{List}
 use mathlib.Core.Bool.{Bool}
 use Prim.Native.Nat.{ℕ, zero, suc, _≤_}
-use native.Mathlib.Decide.{decLt}
 use native.Mathlib.Omega.{arith}
+use native.Mathlib.Decide.{decLt}
 use lib.IntN.{ℤ}
 use lib.ListN.{length}
 use lib.Dec.{leb}
 use Rattle.geometry.specs.declared.aabb.AABB.{AABB}
 use Rattle.geometry.specs.declared.settings.Settings.{Settings}
 use Rattle.geometry.specs.declared.node_data.NodeData.{NodeData}
-use Rattle.geometry.specs.Settings.{D}
-use Rattle.geometry.specs.Cells.{InRange, rootData, childData, route}
+use Rattle.geometry.specs.Cells.{InRange, childData, route, rootData}
 use Rattle.geometry.specs.Laws.Geometry.{route-child, levelsLeft, levels-fall, levels-root}
-use Rattle.geometry.specs.Laws.Ranges.{accepted, root-range, child-range}
+use Rattle.geometry.specs.Laws.Ranges.{child-range, accepted, root-range}
+use Rattle.geometry.specs.Settings.{D}
+use Rattle.model.specs.Trees.{Tree, leaf, branch, childNode, Placed, Shallow}
+use Rattle.model.specs.Shapes.{WellFormed, Shape, root, placedIn, splitsNeeded}
+use Rattle.model.specs.Sums.{changed}
+use Rattle.model.specs.Insert.{Grown, insertAt}
+use Rattle.model.specs.Laws.Insert.{splitCount}
 use Rattle.model.specs.declared.State.{State}
 use Rattle.model.specs.declared.Dot.{Dot}
-use Rattle.model.specs.Sums.{changed}
 use Rattle.model.specs.Laws.Sums.{sumOver-one, byDec}
-use Rattle.model.specs.Trees.{Placed, Tree, leaf, branch, childNode, Shallow}
-use Rattle.model.specs.Insert.{Grown, insertAt}
-use Rattle.model.specs.Shapes.{Shape, WellFormed, root, placedIn, splitsNeeded}
 use Rattle.model.specs.Layout.{World, world, Holds}
 use Rattle.model.specs.Memory.{memory}
-use Rattle.model.specs.Laws.Insert.{splitCount}
 use Rattle.model.specs.Laws.Splitting.{needed-count}
 use Rattle.model.specs.Laws.Shapes.{below-no, live-and-free, valid-height}
 use Rattle.model.specs.Laws.Layout.{holds-settings}
 use Rattle.model.specs.Laws.Memory.{holds-represented}
 use Rattle.memory.specs.declared.node.Node.{Node}
 use Rattle.memory.specs.Nodes.{nodeAt}
-use Rattle.tree.specs.declared.find.Leaf.{Leaf}
+use Rattle.tree.specs.Routes.{leafFor, LeadsTo}
+use Rattle.tree.specs.Laws.Routes.{chainFor, pathTo, path-reach, path-sub, path-node}
 use Rattle.tree.specs.Paths.{put}
-use Rattle.tree.specs.Joins.{holds-stored}
-use Rattle.tree.specs.Routes.{leafFor, chainFor, pathTo, path-reach, path-sub, path-node, LeadsTo}
-use Rattle.tree.specs.Leaves.{here-sum, here-count, here-standing, leads-leaf}
-use Rattle.tree_insert.specs.FreeLists.{FreeIn, SomeFree, groups-free}
-use Rattle.tree_insert.specs.Counting.{Countable, Needed}
-use Rattle.tree_insert.specs.Growing.{ended, Going}
+use Rattle.tree.specs.declared.find.Leaf.{Leaf}
+use Rattle.tree.specs.Laws.Stored.{holds-stored}
+use Rattle.tree.specs.Laws.Leaves.{here-sum, here-count, here-stands, leads-leaf}
+use Rattle.tree_insert.specs.FreeGroups.{FreeIn, SomeFree}
+use Rattle.tree_insert.specs.Laws.FreeGroups.{groups-free}
+use Rattle.tree_insert.specs.SplitsNeeded.{Countable, Needed}
+use Rattle.tree_insert.specs.SplitDown.{Ended, ended, Inserting}
 
 -- ---- the leaf on the tree
 
@@ -65,11 +67,13 @@ module _ (s : Settings) (d : Placed) (free : List ℕ) where
   pub record Arrived (levels : ℕ) (n : NodeData) (a : ℕ) (t : Tree) : Type 0 where
     pub left : ℕ
     pub high : levelsLeft s (leafFor (d .dot .rect) n a t .«node_data») ≤ left
-    pub counts : splitCount s levels n (d .dot .rect) t ≡ splitCount s left (leafFor (d .dot .rect) n a t .«node_data») (d .dot .rect) (leaf (chainFor (d .dot .rect) n t))
+    pub counts : splitCount s levels n (d .dot .rect) t
+        ≡ splitCount s left (leafFor (d .dot .rect) n a t .«node_data») (d .dot .rect) (leaf (chainFor (d .dot .rect) n t))
     pub grows : insertAt s levels n d t free
         ≡ grownThere n t (insertAt s left (leafFor (d .dot .rect) n a t .«node_data») d (leaf (chainFor (d .dot .rect) n t)) free)
 
-  arrive : 1 ≤ s .«smallest_cell» → (levels : ℕ) (n : NodeData) (a : ℕ) (t : Tree) → Shallow levels t → WellFormed s n t → levelsLeft s n ≤ levels → Arrived levels n a t
+  arrive : 1 ≤ s .«smallest_cell» → (levels : ℕ) (n : NodeData) (a : ℕ) (t : Tree) → Shallow levels t → WellFormed s n t → levelsLeft s n ≤ levels
+      → Arrived levels n a t
   arrive one levels n a (leaf chain) flat v high = record { left = levels; high = high; counts = refl; grows = refl }
   arrive one zero n a (branch g f) flat v high = absurd flat
   arrive one (suc levels) n a (branch g f) flat v high =
@@ -85,8 +89,8 @@ module _ (s : Settings) (d : Placed) (free : List ℕ) where
 
 -- ---- the leaf in the rows
 
-module _ (s : State) (nodes dots : List ℕ) (rects : List ℤ) (marks : List ℕ) (x : Shape) (h : Holds (world s nodes dots rects marks) x) (dot : Dot) (l : Leaf)
-    (leads : LeadsTo (s .settings) nodes (dot .rect) l) where
+module _ {s : State} {nodes dots : List ℕ} {rects : List ℤ} {marks : List ℕ} {x : Shape} (h : Holds (world s nodes dots rects marks) x)
+    (dot : Dot) {l : Leaf} (leads : LeadsTo (s .settings) nodes (dot .rect) l) where
   abbrev w₀ : World
   w₀ = world s nodes dots rects marks
 
@@ -97,7 +101,7 @@ module _ (s : State) (nodes dots : List ℕ) (rects : List ℤ) (marks : List �
   chain₀ = chainFor (dot .rect) (root x) (x .tree)
 
   at-leaf : l ≡ l₀
-  at-leaf = leads-leaf w₀ x h (dot .rect) l leads
+  at-leaf = leads-leaf h (dot .rect) leads
 
   in-range : InRange (l₀ .«node_data» .cell)
   unfolding rootData
@@ -109,19 +113,19 @@ module _ (s : State) (nodes dots : List ℕ) (rects : List ℤ) (marks : List �
       (valid-height x (h .valid)) (h .valid .wellFormed) (levels-root (x .settings))
 
   short : length chain₀ ≤ 65536
-  short = omega (arith, here-sum w₀ x h (dot .rect) (λ d. 1), sumOver-one chain₀, live-and-free x (h .valid), h .valid .placesFit)
+  short = omega (arith, here-sum h (dot .rect) (λ d. 1), sumOver-one chain₀, live-and-free x (h .valid), h .valid .placesFit)
 
   -- the count of its splits
-  module _ (node : Node) (words : node ≡ nodeAt nodes (l .node)) where
+  module _ {node : Node} (words : node ≡ nodeAt nodes (l .node)) where
     counted : (k : Countable (x .settings) dots rects (nodeAt nodes (l₀ .node)) (l₀ .«node_data»)) × (k .chain ≡ chain₀)
     counted = (
       record {
         settings = h .valid .settingsFit;
         range = in-range;
         chain = chain₀;
-        standing = here-standing w₀ x h (dot .rect);
+        stands = here-stands h (dot .rect);
         dotsFit = leaf-formed (dot .rect) (x .settings) (root x) 0 (x .tree) (h .valid .wellFormed) .0;
-        counted = here-count w₀ x h (dot .rect);
+        counted = here-count h (dot .rect);
       },
       refl,
     )
@@ -136,11 +140,13 @@ module _ (s : State) (nodes dots : List ℕ) (rects : List ℤ) (marks : List �
     pub countable : Countable (s .settings) dots rects node (l .«node_data»)
     countable = here-counted .0
 
-    pub needed-is : (splits : ℕ) → Needed (s .settings) dots rects node (l .«node_data») (dot .rect) splits → splits ≡ splitsNeeded dot x
-    needed-is splits needs =
+    pub needed-is : {splits : ℕ} → Needed (s .settings) dots rects node (l .«node_data») (dot .rect) splits → splits ≡ splitsNeeded dot x
+    needed-is needs =
         let e = holds-settings w₀ x h in
         let a = arrived in
-        needs (here-counted .0) (a .left) (subst (λ (y : Leaf). levelsLeft (s .settings) (y .«node_data») ≤ a .left) (sym at-leaf) (subst (λ (y : Settings). levelsLeft y (l₀ .«node_data») ≤ a .left) (sym e) (a .high)))
+        needs (here-counted .0) (a .left)
+        (subst (λ (y : Leaf). levelsLeft (s .settings) (y .«node_data») ≤ a .left) (sym at-leaf)
+        (subst (λ (y : Settings). levelsLeft y (l₀ .«node_data») ≤ a .left) (sym e) (a .high)))
         ∙ (λ i. splitCount (e i) (a .left) (at-leaf i .«node_data») (dot .rect) (leaf (here-counted .1 i))) ∙ sym (a .counts) ∙ sym (needed-count dot x)
 
   -- the free groups
@@ -153,18 +159,20 @@ module _ (s : State) (nodes dots : List ℕ) (rects : List ℤ) (marks : List �
   pub listed-free : SomeFree nodes (s .«free_group»)
   listed-free = record { free = x .freeGroups; listed = groups-listed }
 
-  pub enough-is : (splits : ℕ) (told : Bool) → ((free : List ℕ) → FreeIn nodes (s .«free_group») free → told ≡ leb splits (length free)) → told ≡ leb splits (length (x .freeGroups))
-  enough-is splits told tells = tells (x .freeGroups) groups-listed
+  pub enough-is : (splits : ℕ) {told : Bool} → ((free : List ℕ) → FreeIn nodes (s .«free_group») free → told ≡ leb splits (length free))
+      → told ≡ leb splits (length (x .freeGroups))
+  enough-is splits tells = tells (x .freeGroups) groups-listed
 
-  pub go-start : (splits : ℕ) → splits ≡ splitsNeeded dot x → splits ≤ length (x .freeGroups)
-      → Going x dot (s .«free_place») nodes dots rects (s .«free_group») (l .node) (l .«node_data») splits
-  go-start splits e enough =
+  pub inserting-start : {splits : ℕ} → splits ≡ splitsNeeded dot x → splits ≤ length (x .freeGroups)
+      → Inserting x dot (s .«free_place») nodes dots rects (s .«free_group») (l .node) (l .«node_data») splits
+  inserting-start {splits} e enough =
       let rep = holds-represented w₀ x h in
       let a = arrived in
       let r = dot .rect in
       let d = placedIn dot x in
       let path = pathTo r (root x) (x .tree) in
-      subst (λ (y : Leaf). Going x dot (s .«free_place») nodes dots rects (s .«free_group») (y .node) (y .«node_data») splits) (sym at-leaf)
+      let there : Grown → Ended = λ y. record { tree = put (x .tree) path (y .tree); free = y .free } in
+      subst (λ (y : Leaf). Inserting x dot (s .«free_place») nodes dots rects (s .«free_group») (y .node) (y .«node_data») splits) (sym at-leaf)
       (record {
         tree = x .tree;
         path = path;
@@ -184,6 +192,6 @@ module _ (s : State) (nodes dots : List ℕ) (rects : List ℤ) (marks : List �
         short = short;
         range = in-range;
         ends =
-            ap (λ (u : Tree). let y = insertAt (x .settings) (a .left) (l₀ .«node_data») d u (x .freeGroups) in record { tree = put (x .tree) path (y .tree); free = y .free })
-            (path-sub r (root x) (x .tree)) ∙ sym (ap ended (a .grows));
+            ap (λ (u : Tree). there (insertAt (x .settings) (a .left) (l₀ .«node_data») d u (x .freeGroups))) (path-sub r (root x) (x .tree))
+            ∙ sym (ap ended (a .grows));
       })

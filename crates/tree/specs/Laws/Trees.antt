@@ -1,62 +1,45 @@
 -- A tree that stands in the rows, as the walks meet it.
---     Stands       a tree stands at a node, in rows that have its nodes and places
 --     not-branch, is-branch        what a test for a branch says of the count
 --     node-in-row  the row has the node at which a tree stands
---     mark-no-leaf, shallow-branch     where the mark stands there is no leaf, and below a branch a level is left
+--     mark-no-leaf, shallow-branch where the mark stands there is no leaf, and below a branch a level is left
 --     root-stands, root-total      the tree of a memory stands at node 0, and its nodes are few enough to be counted
-use mathlib.Core.Path.{_≡_, refl, ap, sym, _∙_, subst}
+use mathlib.Core.Path.{_≡_, ap, sym, _∙_, refl, subst}
 use mathlib.Core.List.{List, [], _∷_, map}
 use mathlib.Core.Bool.{Bool, true, false, not}
-use Prim.Native.Nat.{ℕ, zero, suc, _+_, _-_, _*_, _≤_, _<_}
-use native.Mathlib.Decide.{decLt}
+use Prim.Native.Nat.{ℕ, zero, suc, _-_, _≤_, _<_, _+_, _*_}
 use native.Mathlib.Numerals.{sub-one}
 use native.Mathlib.Omega.{arith}
+use native.Mathlib.Decide.{decLt}
 use lib.Dec.{eqb}
-use lib.IntN.{ℤ}
 use lib.ListN.{length, length-append}
+use lib.IntN.{ℤ}
 use borrow.Author.Tests.{not-true, not-false, eqb-true, eqb-false}
 use Rattle.geometry.specs.Settings.{D}
-use Rattle.model.specs.declared.State.{State}
-use Rattle.model.specs.Sums.{indicator, sumOver, sumBelow}
-use Rattle.model.specs.Laws.Sums.{indicator-same, sumOver-one, sumOver-append, sumBelow-ext, sumBelow-term, byDec, sumOver-map}
-use Rattle.model.specs.Lists.{All, count}
+use Rattle.model.specs.Layout.{branchMark, NodeEntry, treeNodes, nodeEntries, world, freeGroupNodes, Holds}
+use Rattle.model.specs.Memory.{countAt, Represented}
+use Rattle.model.specs.Laws.Sums.{sumOver-one, indicator-same, sumBelow-ext, sumBelow-term, byDec, sumOver-map, sumOver-append}
+use Rattle.model.specs.Lists.{count, All}
+use Rattle.model.specs.Trees.{Placed, Tree, leaf, branch, Shallow, size, childNode, atPlace, placeCount, AllDots}
+use Rattle.model.specs.Sums.{indicator, sumOver}
 use Rattle.model.specs.Laws.Lists.{sumOver-joinBelow}
-use Rattle.model.specs.Trees.{Placed, Tree, leaf, branch, childNode, atPlace, placeCount, AllDots, Shallow, size}
 use Rattle.model.specs.Shapes.{Shape, Valid, below}
-use Rattle.model.specs.Layout.{world, branchMark, NodeEntry, treeNodes, freeGroupNodes, nodeEntries, Holds}
-use Rattle.model.specs.Memory.{read, countAt, Represents, Represented}
 use Rattle.model.specs.Laws.Shapes.{below-yes, below-no, once-length, live-and-free, valid-height}
 use Rattle.model.specs.Laws.Entries.{nodeIs, nodes-once, node-range, node-there}
+use Rattle.model.specs.declared.State.{State}
 use Rattle.model.specs.Laws.Memory.{holds-represented}
 use Rattle.memory.specs.declared.node.Node.{Node}
 use Rattle.memory.specs.Nodes.{nodeAt}
 use Rattle.memory.specs.Rows.{HasNode, HasPlace, HasRect}
-
-abbrev pub InRows : List ℕ → List ℤ → Placed → Type 0
-InRows dots rects d = HasPlace dots (d .place) × HasRect rects (d .place)
-
--- the rows have each node of the tree, and how many nodes it has
-abbrev pub NodesIn : List ℕ → ℕ → Tree → Type 0
-NodesIn nodes a (leaf chain) = HasNode nodes a
-NodesIn nodes a (branch g f) = HasNode nodes a × ((i : ℕ) → i < 5 → NodesIn nodes (childNode g i) (f i))
-
-abbrev pub nodeTotal : Tree → ℕ
-nodeTotal (leaf chain) = 1
-nodeTotal (branch g f) = 1 + sumBelow 5 (λ i. nodeTotal (f i))
-
-pub record Stands (nodes dots : List ℕ) (rects : List ℤ) (levels a : ℕ) (t : Tree) : Type 0 where
-  pub represents : Represents (read nodes dots rects) a t
-  pub shallow : Shallow levels t
-  pub nodesIn : NodesIn nodes a t
-  pub dotsIn : AllDots (InRows dots rects) t
-  pub few : size t ≤ 65536
+use Rattle.tree.specs.Trees.{NodesIn, nodeTotal, TreeStands}
 
 -- ---- what a test for a branch says of the count
 
-pub not-branch : (nodes : List ℕ) (a : ℕ) {w : Node} {b : Bool} → w ≡ nodeAt nodes a → b ≡ eqb (w .count) branchMark → not b ≡ true → countAt nodes a ≡ branchMark → ⊥
+pub not-branch : (nodes : List ℕ) (a : ℕ) {w : Node} {b : Bool} → w ≡ nodeAt nodes a → b ≡ eqb (w .count) branchMark → not b ≡ true
+    → countAt nodes a ≡ branchMark → ⊥
 not-branch nodes a {w} {b} e f n h = eqb-false (w .count) branchMark (sym f ∙ not-true b n) (ap (λ (x : Node). x .count) e ∙ h)
 
-pub is-branch : (nodes : List ℕ) (a : ℕ) {w : Node} {b : Bool} → w ≡ nodeAt nodes a → b ≡ eqb (w .count) branchMark → not b ≡ false → countAt nodes a ≡ branchMark
+pub is-branch : (nodes : List ℕ) (a : ℕ) {w : Node} {b : Bool} → w ≡ nodeAt nodes a → b ≡ eqb (w .count) branchMark → not b ≡ false
+    → countAt nodes a ≡ branchMark
 is-branch nodes a {w} {b} e f n = sym (ap (λ (x : Node). x .count) e) ∙ eqb-true (w .count) branchMark (sym f ∙ not-false b n)
 
 -- ---- what a walk uses of the tree at a node
@@ -117,7 +100,13 @@ nodes-all x v =
     byDec (decLt k n)
     (λ h. omega (arith, c, below-yes k n h, nodes-once x v k, node-there x v k h))
     (λ h. byDec (decLt 0 (sumOver (nodeIs k) es)) (λ s. absurd (h (node-range x v k s))) (λ s. omega (arith, c, below-no k n (omega arith)))) in
-    omega (arith, once-length n (map (λ e. e .node) es) each, sumOver-one (map (λ (e : NodeEntry). e .node) es), sumOver-map (λ k. 1) (λ (e : NodeEntry). e .node) es, sumOver-one es)
+    omega (
+      arith,
+      once-length n (map (λ e. e .node) es) each,
+      sumOver-one (map (λ (e : NodeEntry). e .node) es),
+      sumOver-map (λ k. 1) (λ (e : NodeEntry). e .node) es,
+      sumOver-one es,
+    )
 
 -- ---- the root
 
@@ -125,7 +114,7 @@ module _ (s : State) (nodes dots : List ℕ) (rects : List ℤ) (marks : List �
   r : Represented (world s nodes dots rects marks) x
   r = holds-represented (world s nodes dots rects marks) x h
 
-  pub root-stands : Stands nodes dots rects (D (s .settings)) 0 (x .tree)
+  pub root-stands : TreeStands nodes dots rects (D (s .settings)) 0 (x .tree)
   root-stands =
       let v = h .valid in
       let few = live-and-free x v in

@@ -1,23 +1,16 @@
--- What a chain and a tree keep where the words they stand in are kept.
---     sumNodes, nodeCount  a weight summed over the nodes; how often a node stands in the tree
---     chain-frame, tree-frame      the same chain, the same tree, in another memory that agrees where they stand
+-- What a chain, a tree and the free groups keep where the words they stand in are kept.
+--     chain-frame, tree-frame, free-frame  the same in another memory that agrees where they stand
 --     chain-join, chain-cut, chain-push, chain-pop, chain-drop     a chain put together and taken apart, and its three changes
 use mathlib.Core.Path.{_≡_, refl, sym, _∙_, subst}
 use mathlib.Core.List.{List, [], _∷_, _++_}
-use Prim.Native.Nat.{ℕ, _+_, _-_, _≤_}
+use Prim.Native.Nat.{ℕ, _≤_, _+_, _<_}
 use native.Mathlib.Omega.{arith}
-use Rattle.model.specs.Sums.{indicator, sumOver, sumBelow}
+use Rattle.model.specs.Memory.{Mem, Chained, Represents, FreeGroups}
+use Rattle.model.specs.Sums.{sumOver, indicator}
 use Rattle.model.specs.Laws.Sums.{indicator-same, sumBelow-term}
-use Rattle.model.specs.Trees.{Placed, Tree, leaf, branch, childNode, atPlace, placeCount}
+use Rattle.model.specs.Trees.{Placed, atPlace, Tree, leaf, branch, childNode, placeCount}
 use Rattle.model.specs.Layout.{none}
-use Rattle.model.specs.Memory.{Mem, Chained, Represents}
-
-abbrev pub sumNodes : (ℕ → ℕ) → ℕ → Tree → ℕ
-sumNodes h a (leaf c) = h a
-sumNodes h a (branch g f) = h a + sumBelow 5 (λ i. sumNodes h (childNode g i) (f i))
-
-abbrev pub nodeCount : ℕ → ℕ → Tree → ℕ
-nodeCount k a t = sumNodes (indicator k) a t
+use Rattle.tree.specs.Trees.{nodeCount}
 
 -- ---- agreement at a place, at a node
 
@@ -29,7 +22,8 @@ SameNode m w k = (m .first k ≡ w .first k) × (m .count k ≡ w .count k)
 
 -- ---- the frame of a chain
 
-pub chain-frame : (m w : Mem) (h : ℕ) (ds : List Placed) (e : ℕ) → ((k : ℕ) → 1 ≤ sumOver (atPlace k) ds → SamePlace m w k) → Chained m h ds e → Chained w h ds e
+pub chain-frame : (m w : Mem) (h : ℕ) (ds : List Placed) (e : ℕ) → ((k : ℕ) → 1 ≤ sumOver (atPlace k) ds → SamePlace m w k) → Chained m h ds e
+    → Chained w h ds e
 chain-frame m w h [] e s r = r
 chain-frame m w h (d ∷ ds) e s r =
     let p = d .place in
@@ -75,9 +69,10 @@ chain-drop m w h xs q d ys e s i x g =
       subst (λ (n : ℕ). Chained w n ys e) (sym x) (chain-frame m w (m .next (d .place)) ys e (λ k b. s k (omega arith)) (v .2 .2)),
     )
 
--- ---- the frame of a tree
+-- ---- the frame of a tree, of the free groups
 
-pub tree-frame : (m w : Mem) (a : ℕ) (t : Tree) → ((k : ℕ) → 1 ≤ nodeCount k a t → SameNode m w k) → ((k : ℕ) → 1 ≤ placeCount k t → SamePlace m w k) → Represents m a t → Represents w a t
+pub tree-frame : (m w : Mem) (a : ℕ) (t : Tree) → ((k : ℕ) → 1 ≤ nodeCount k a t → SameNode m w k) → ((k : ℕ) → 1 ≤ placeCount k t → SamePlace m w k)
+    → Represents m a t → Represents w a t
 tree-frame m w a (leaf c) n p r =
     let s = n a (omega (arith, indicator-same a)) in
     (sym (s .1) ∙ r .0, subst (λ (x : ℕ). Chained w x c none) (s .0) (chain-frame m w (m .first a) c none p (r .1)))
@@ -90,4 +85,15 @@ tree-frame m w a (branch g f) n p r =
           (λ k c. n k (omega (arith, sumBelow-term 5 (λ j. nodeCount k (childNode g j) (f j)) i b)))
           (λ k c. p k (omega (arith, sumBelow-term 5 (λ j. placeCount k (f j)) i b)))
           (r .2 i b),
+    )
+
+pub free-frame : (m w : Mem) (h : ℕ) (gs : List ℕ) → ((g i : ℕ) → 1 ≤ sumOver (indicator g) gs → i < 5 → SameNode m w (childNode g i)) → FreeGroups m h gs
+    → FreeGroups w h gs
+free-frame m w h [] s r = r
+free-frame m w h (g ∷ gs) s r =
+    let z = s g 0 (omega (arith, indicator-same g)) (omega arith) in (
+      r .0,
+      sym (z .1) ∙ r .1,
+      λ i b c. let q = s g i (omega (arith, indicator-same g)) c in (sym (q .0) ∙ r .2 i b c .0, sym (q .1) ∙ r .2 i b c .1),
+      free-frame m w (w .first (childNode g 0)) gs (λ k i c b. s k i (omega arith) b) (subst (λ (n : ℕ). FreeGroups m n gs) (z .0) (r .3)),
     )

@@ -1,32 +1,31 @@
--- A dot taken out of its chain in the words, its place freed; the cleanup of the whole memory.
+-- A dot taken out of its chain in the words, its place freed.
 --     leaf-holds   what is owed where one leaf and the free places change
 --     popWords, pop-holds; dropWords, drop-holds   the head of the chain goes; the dot behind another goes
---     clean-holds  the cleanup
-use mathlib.Core.Path.{_≡_, refl, ap, sym, _∙_, subst}
+use mathlib.Core.Path.{_≡_, ap, sym, refl, _∙_, subst}
 use mathlib.Core.Logic.{_≢_}
-use mathlib.Core.List.{List, [], _∷_, _++_, map}
-use Prim.Native.Nat.{ℕ, _+_, _-_, _/_, _%_, _≤_, _<_}
-use native.Mathlib.Decide.{ℕ-discrete}
+use mathlib.Core.List.{List, map, _∷_, _++_}
+use Prim.Native.Nat.{ℕ, _+_, _≤_, _-_}
 use native.Mathlib.Omega.{arith}
 use lib.ListN.{length-append}
 use Rattle.model.specs.Sums.{indicator, sumOver, changed}
-use Rattle.model.specs.Laws.Sums.{indicator-same, indicator-other, indicator-le, sumOver-append, sumBelow-zero, changed-same, changed-other, byDec}
-use Rattle.model.specs.Dots.{zeroDot}
-use Rattle.model.specs.Trees.{Placed, Tree, leaf, branch, childNode, sumDots, sumGroups, atPlace, groupCount}
+use Rattle.model.specs.Laws.Sums.{indicator-same, sumOver-append, changed-same, changed-other}
+use Rattle.model.specs.Trees.{Placed, Tree, leaf, childNode, sumDots, sumGroups, atPlace, groupCount}
 use Rattle.model.specs.Layout.{none, blank}
 use Rattle.model.specs.Memory.{Mem, Chained, Represents}
 use Rattle.model.specs.Laws.Shapes.{below-le}
-use Rattle.tree.specs.Frames.{sumNodes, nodeCount, SamePlace, SameNode, chain-frame, chain-pop, chain-drop}
-use Rattle.tree.specs.Paths.{Children, sub, nodeAt, put, sumDots-put, sumGroups-put, sumDots-sub, sumNodes-sub, tree-sub, tree-put, nodes-groups}
-use Rattle.tree.specs.Stores.{setFirst, setCount, setDot, setNext, free-frame, Stored, nodes-once, node-not-free, node-zero}
-use Rattle.model.specs.Cleanup.{cleanTree, freedBy}
-use Rattle.model.specs.Laws.Cleanup.{clean-sum, clean-groups}
-use Rattle.tree.specs.Collapses.{cleanWords, overGroup, tree-cleaned}
+use Rattle.model.specs.Dots.{zeroDot}
+use Rattle.tree.specs.Trees.{sumNodes, nodeCount}
+use Rattle.tree.specs.Laws.Frames.{SamePlace, SameNode, free-frame, chain-frame, chain-pop, chain-drop}
+use Rattle.tree.specs.Laws.Paths.{Children, sumDots-put, sumGroups-put, sumNodes-sub, tree-put, sumDots-sub, tree-sub}
+use Rattle.tree.specs.Paths.{sub, nodeAt, put}
+use Rattle.tree.specs.Stored.{Stored}
+use Rattle.tree.specs.Laws.Stored.{nodes-once, node-not-free}
+use Rattle.tree.specs.Stores.{setFirst, setCount, setDot, setNext}
 
 -- ---- a leaf changes, with the free places: what is owed
 
-module _ (G N : ℕ) (m : Mem) (groupHead placeHead : ℕ) (t : Tree) (free spare : List ℕ) (path : List ℕ) (c : List Placed) (children : Children path) (e : sub t path ≡ leaf c)
-    (H : Stored G N m groupHead placeHead t free spare) where
+module _ (G N : ℕ) (m : Mem) (groupHead placeHead : ℕ) (t : Tree) (free spare : List ℕ) (path : List ℕ) (c : List Placed)
+    (children : Children path) (e : sub t path ≡ leaf c) (H : Stored G N m groupHead placeHead t free spare) where
   pub leaf-holds : (w : Mem) (placeHead′ : ℕ) (c′ : List Placed) (spare′ : List ℕ) → let b = nodeAt 0 t path in
       ((k : ℕ) → k ≢ b → SameNode m w k)
       → ((k : ℕ) → sumOver (atPlace k) c + sumOver (atPlace k) (map blank spare) ≡ 0 → SamePlace m w k)
@@ -43,7 +42,8 @@ module _ (G N : ℕ) (m : Mem) (groupHead placeHead : ℕ) (t : Tree) (free spar
             (λ k h z. sn k (λ x. omega (arith, z, ap (sumNodes (indicator k) b) e, ap (λ (y : ℕ). indicator y b) x, indicator-same b)))
             (λ k h z. sp k (omega (arith, ap (sumDots (atPlace k)) e, H .placesOnce k, below-le k N)))
             (H .tree) r;
-        groups = free-frame m w groupHead free (λ g i h l. sn (childNode g i) (λ x. node-not-free t b g i l (omega (arith, H .groupsOnce g, below-le g G)) inN (sym x))) (H .groups);
+        groups = free-frame m w groupHead free
+            (λ g i h l. sn (childNode g i) (λ x. node-not-free t b g i l (omega (arith, H .groupsOnce g, below-le g G)) inN (sym x))) (H .groups);
         places = s;
         groupsOnce = λ k. omega (arith, H .groupsOnce k, sumGroups-put (indicator k) t path (leaf c′) children, ap (sumGroups (indicator k)) e);
         placesOnce = λ k. omega (arith, H .placesOnce k, sumDots-put (atPlace k) t path (leaf c′) children, ap (sumDots (atPlace k)) e, q k);
@@ -60,7 +60,8 @@ free-other m p placeHead k ne = (sym (changed-other (m .dot) p zeroDot k ne), sy
 abbrev pub popWords : Mem → ℕ → ℕ → ℕ → Mem
 popWords m b p placeHead = freeWords (setCount (setFirst m b (m .next p)) b (m .count b - 1)) p placeHead
 
-pub pop-holds : (G N : ℕ) (m : Mem) (groupHead placeHead : ℕ) (t : Tree) (free spare : List ℕ) (path : List ℕ) (d : Placed) (c : List Placed) → Children path → sub t path ≡ leaf (d ∷ c)
+pub pop-holds : (G N : ℕ) (m : Mem) (groupHead placeHead : ℕ) (t : Tree) (free spare : List ℕ) (path : List ℕ) (d : Placed) (c : List Placed)
+    → Children path → sub t path ≡ leaf (d ∷ c)
     → Stored G N m groupHead placeHead t free spare
     → Stored G N (popWords m (nodeAt 0 t path) (d .place) placeHead) groupHead (d .place) (put t path (leaf c)) free (d .place ∷ spare)
 pop-holds G N m groupHead placeHead t free spare path d c children e H =
@@ -76,11 +77,13 @@ pop-holds G N m groupHead placeHead t free spare path d c children e H =
     (λ k ne. (sym (changed-other (m .first) b (m .next p) k ne), sym (changed-other (m .count) b (m .count b - 1) k ne)))
     (λ k z. free-other m p placeHead k (λ x. omega (arith, ap (λ (y : ℕ). indicator y p) x, indicator-same p))) (
       changed-same (m .count) b (m .count b - 1) ∙ omega (arith, r .0),
-      subst (λ (y : ℕ). Chained w y c none) (sym (changed-same (m .first) b (m .next p))) (chain-pop m w (m .first b) d c none (λ k h. off k (omega arith)) (r .1)),
+      subst (λ (y : ℕ). Chained w y c none) (sym (changed-same (m .first) b (m .next p)))
+          (chain-pop m w (m .first b) d c none (λ k h. off k (omega arith)) (r .1)),
     ) (
       refl,
       changed-same (m .dot) p zeroDot,
-      subst (λ (y : ℕ). Chained w y (map blank spare) none) (sym (changed-same (m .next) p placeHead)) (chain-frame m w placeHead (map blank spare) none (λ k h. off k (omega arith)) (H .places)),
+      subst (λ (y : ℕ). Chained w y (map blank spare) none) (sym (changed-same (m .next) p placeHead))
+          (chain-frame m w placeHead (map blank spare) none (λ k h. off k (omega arith)) (H .places)),
     )
     (λ k. omega arith)
 
@@ -88,8 +91,9 @@ pop-holds G N m groupHead placeHead t free spare path d c children e H =
 abbrev pub dropWords : Mem → ℕ → ℕ → ℕ → ℕ → Mem
 dropWords m b q p placeHead = freeWords (setCount (setNext m q (m .next p)) b (m .count b - 1)) p placeHead
 
-pub drop-holds : (G N : ℕ) (m : Mem) (groupHead placeHead : ℕ) (t : Tree) (free spare : List ℕ) (path : List ℕ) (xs : List Placed) (q d : Placed) (ys : List Placed) → Children path
-    → sub t path ≡ leaf (xs ++ q ∷ d ∷ ys) → Stored G N m groupHead placeHead t free spare
+pub drop-holds : (G N : ℕ) (m : Mem) (groupHead placeHead : ℕ) (t : Tree) (free spare : List ℕ) (path : List ℕ) (xs : List Placed) (q d : Placed)
+    (ys : List Placed)
+    → Children path → sub t path ≡ leaf (xs ++ q ∷ d ∷ ys) → Stored G N m groupHead placeHead t free spare
     → Stored G N (dropWords m (nodeAt 0 t path) (q .place) (d .place) placeHead) groupHead (d .place) (put t path (leaf (xs ++ q ∷ ys))) free (d .place ∷ spare)
 drop-holds G N m groupHead placeHead t free spare path xs q d ys children e H =
     let b = nodeAt 0 t path in
@@ -98,57 +102,30 @@ drop-holds G N m groupHead placeHead t free spare path xs q d ys children e H =
     let w = dropWords m b o p placeHead in
     let c = xs ++ q ∷ d ∷ ys in
     let r = subst (λ (u : Tree). Represents m b u) e (tree-sub m 0 t path children (H .tree)) in
-    let sum : (k : ℕ) → sumOver (atPlace k) c ≡ sumOver (atPlace k) xs + (indicator k o + (indicator k p + sumOver (atPlace k) ys)) = λ k. sumOver-append (atPlace k) xs (q ∷ d ∷ ys) in
+    let sum : (k : ℕ) → sumOver (atPlace k) c ≡ sumOver (atPlace k) xs + (indicator k o + (indicator k p + sumOver (atPlace k) ys)) =
+    λ k. sumOver-append (atPlace k) xs (q ∷ d ∷ ys) in
     let all : (k : ℕ) → sumOver (atPlace k) xs + (indicator k o + (indicator k p + sumOver (atPlace k) ys)) + sumOver (atPlace k) (map blank spare) ≤ 1 =
     λ k. omega (arith, H .placesOnce k, below-le k N, sumDots-sub (atPlace k) t path children, ap (sumDots (atPlace k)) e, sum k) in
-    let same : (k : ℕ) → k ≢ o → k ≢ p → SamePlace m w k = λ k no np.
-    (sym (changed-other (m .dot) p zeroDot k np), sym (changed-other (changed (m .next) o (m .next p)) p placeHead k np ∙ changed-other (m .next) o (m .next p) k no)) in
+    let same : (k : ℕ) → k ≢ o → k ≢ p → SamePlace m w k = λ k no np. (
+      sym (changed-other (m .dot) p zeroDot k np),
+      sym (changed-other (changed (m .next) o (m .next p)) p placeHead k np ∙ changed-other (m .next) o (m .next p) k no),
+    ) in
     let off : (k : ℕ) → 1 ≤ sumOver (atPlace k) xs + sumOver (atPlace k) ys + sumOver (atPlace k) (map blank spare) → SamePlace m w k = λ k h.
-    same k (λ x. omega (arith, all k, ap (λ (y : ℕ). indicator y o) x, indicator-same o)) (λ x. omega (arith, all k, ap (λ (y : ℕ). indicator y p) x, indicator-same p)) in
+    same k (λ x. omega (arith, all k, ap (λ (y : ℕ). indicator y o) x, indicator-same o))
+    (λ x. omega (arith, all k, ap (λ (y : ℕ). indicator y p) x, indicator-same p)) in
     let op : o ≢ p = λ x. omega (arith, all o, ap (λ (y : ℕ). indicator o y) x, indicator-same o) in
     leaf-holds G N m groupHead placeHead t free spare path c children e H w p (xs ++ q ∷ ys) (p ∷ spare)
     (λ k ne. (refl, sym (changed-other (m .count) b (m .count b - 1) k ne)))
-    (λ k z. same k (λ x. omega (arith, sum k, ap (λ (y : ℕ). indicator y o) x, indicator-same o)) (λ x. omega (arith, sum k, ap (λ (y : ℕ). indicator y p) x, indicator-same p))) (
+    (λ k z. same k (λ x. omega (arith, sum k, ap (λ (y : ℕ). indicator y o) x, indicator-same o))
+    (λ x. omega (arith, sum k, ap (λ (y : ℕ). indicator y p) x, indicator-same p))) (
       changed-same (m .count) b (m .count b - 1) ∙ omega (arith, r .0, length-append xs (q ∷ d ∷ ys), length-append xs (q ∷ ys)),
       chain-drop m w (m .first b) xs q d ys none (λ k h. off k (omega arith))
-          (changed-other (m .dot) p zeroDot o op) (changed-other (changed (m .next) o (m .next p)) p placeHead o op ∙ changed-same (m .next) o (m .next p)) (r .1),
+          (changed-other (m .dot) p zeroDot o op)
+          (changed-other (changed (m .next) o (m .next p)) p placeHead o op ∙ changed-same (m .next) o (m .next p)) (r .1),
     ) (
       refl,
       changed-same (m .dot) p zeroDot,
-      subst (λ (y : ℕ). Chained w y (map blank spare) none) (sym (changed-same (changed (m .next) o (m .next p)) p placeHead)) (chain-frame m w placeHead (map blank spare) none (λ k h. off k (omega arith)) (H .places)),
+      subst (λ (y : ℕ). Chained w y (map blank spare) none) (sym (changed-same (changed (m .next) o (m .next p)) p placeHead))
+          (chain-frame m w placeHead (map blank spare) none (λ k h. off k (omega arith)) (H .places)),
     )
     (λ k. omega (arith, sum k, sumOver-append (atPlace k) xs (q ∷ ys)))
-
--- ---- the cleanup of the whole
-
-free-nodes : (q r : ℕ) (free : List ℕ) → r < 5 → sumOver (overGroup (indicator (childNode q r))) free ≡ sumOver (indicator q) free
-free-nodes q r [] b = refl
-free-nodes q r (g ∷ gs) b = omega (arith, free-nodes q r gs b, nodes-groups q r 0 (branch g (λ i. leaf [])) b, indicator-other (childNode q r) 0 (λ x. omega arith))
-
-free-zero : (free : List ℕ) → sumOver (overGroup (indicator 0)) free ≡ 0
-free-zero [] = refl
-free-zero (g ∷ gs) = omega (arith, free-zero gs, sumBelow-zero 5 (λ i. indicator 0 (childNode g i)) (λ i b. indicator-other 0 (childNode g i) (λ e. omega arith)))
-
-pub nodes-all : (t : Tree) (free : List ℕ) → ((k : ℕ) → groupCount k t + sumOver (indicator k) free ≤ 1) → (k : ℕ) → nodeCount k 0 t + sumOver (overGroup (indicator k)) free ≤ 1
-nodes-all t free o k =
-    byDec (ℕ-discrete k 0)
-    (λ e. subst (λ (y : ℕ). nodeCount y 0 t + sumOver (overGroup (indicator y)) free ≤ 1) (sym e) (omega (arith, node-zero 0 t, indicator-le 0 0, free-zero free)))
-    (λ ne.
-    let q : ℕ = (k - 1) / 5 in
-    let r : ℕ = (k - 1) % 5 in
-    let e : childNode q r ≡ k = omega arith in
-    let b : r < 5 = omega arith in
-    subst (λ (y : ℕ). nodeCount y 0 t + sumOver (overGroup (indicator y)) free ≤ 1) e
-    (omega (arith, nodes-groups q r 0 t b, free-nodes q r free b, o q, indicator-other (childNode q r) 0 (λ x. omega arith))))
-
-pub clean-holds : (G N : ℕ) (m : Mem) (groupHead placeHead : ℕ) (t : Tree) (free spare : List ℕ) → Stored G N m groupHead placeHead t free spare
-    → let w = cleanWords t 0 (record { mem = m; head = groupHead }) in Stored G N (w .mem) (w .head) placeHead (cleanTree t) (freedBy t free) spare
-clean-holds G N m groupHead placeHead t free spare H =
-    let g = tree-cleaned t 0 (record { mem = m; head = groupHead }) free (nodes-all t free (λ k. omega (arith, H .groupsOnce k, below-le k G)), H .tree, H .groups) in
-    record {
-      tree = g .0;
-      groups = g .1;
-      places = chain-frame m _ placeHead (map blank spare) none (λ k h. g .3 k) (H .places);
-      groupsOnce = λ k. clean-groups (indicator k) t free ∙ H .groupsOnce k;
-      placesOnce = λ k. omega (arith, clean-sum (atPlace k) t, H .placesOnce k);
-    }
