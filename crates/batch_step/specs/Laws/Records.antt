@@ -11,7 +11,7 @@ use native.Mathlib.Omega.{arith}
 use lib.IntN.{ℤ}
 use lib.Dec.{eqb, ltb}
 use lib.ListN.{length, replicate, set}
-use Rattle.arithmetic.specs.Tests.{byBool}
+use Rattle.arithmetic.specs.Laws.Tests.{byBool}
 use Rattle.geometry.specs.declared.aabb.AABB.{AABB}
 use Rattle.geometry.specs.Rectangles.{inverted, farOut}
 use Rattle.geometry.specs.Settings.{rootOf, contains}

@@ -6,7 +6,7 @@ use Prim.Native.Nat.{ℕ, _/_}
 use lib.IntN.{ℤ}
 use lib.ListN.{length}
 use borrow.Author.Tests.{not-true, not-false}
-use Rattle.arithmetic.specs.Tests.{true-false}
+use Rattle.arithmetic.specs.Laws.Tests.{true-false}
 use Rattle.geometry.specs.declared.settings.Settings.{Settings}
 use Rattle.geometry.specs.Settings.{inRange}
 use Rattle.model.specs.declared.State.{State}

@@ -10,7 +10,7 @@ use Prim.Native.Nat.{ℕ}
 use native.Mathlib.Omega.{arith}
 use lib.IntN.{ℤ}
 use lib.ListN.{length, replicate}
-use Rattle.arithmetic.specs.Tests.{byBool}
+use Rattle.arithmetic.specs.Laws.Tests.{byBool}
 use Rattle.geometry.specs.Settings.{inRange}
 use Rattle.model.specs.declared.State.{State}
 use Rattle.model.specs.Shapes.{Shape}

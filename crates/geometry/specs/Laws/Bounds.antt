@@ -11,9 +11,9 @@ use lib.Signed.{ltZ, leZ}
 use lib.Dec.{eqb, leb}
 use borrow.Author.Tests.{ne-eqb, not-false}
 use Rattle.arithmetic.specs.Ints.{maxZ, minZ}
-use Rattle.arithmetic.specs.Tests.{byBool, true-false}
-use Rattle.arithmetic.specs.Cases.{all-four, sameBool, same-bool}
-use Rattle.arithmetic.specs.Linear.{ints, and-t}
+use Rattle.arithmetic.specs.Laws.Tests.{byBool, true-false}
+use Rattle.arithmetic.specs.Laws.Cases.{all-four, sameBool, same-bool}
+use Rattle.arithmetic.specs.Laws.Linear.{ints, and-t}
 use Rattle.geometry.specs.declared.aabb.AABB.{AABB}
 use Rattle.geometry.specs.declared.centered_aabb.CenteredAABB.{CenteredAABB}
 use Rattle.geometry.specs.declared.bounds.Bounds.{Bounds}

@@ -1,7 +1,7 @@
 -- The node that node_of gives, of the numbers as they are read back.
 use mir.Syntax.{w32}
 use borrow.Author.Needs.{needs}
-use Rattle.arithmetic.specs.Linear.{got}
+use Rattle.arithmetic.specs.Laws.Linear.{got}
 use Rattle.geometry_export.proofs.geometry_cell.Statement.{statement}
 use Rattle.geometry_export.proofs.geometry_cell.Tie as tie
 

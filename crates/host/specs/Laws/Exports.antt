@@ -8,7 +8,7 @@ use mathlib.Core.Bool.{Bool, true, false, not}
 use Prim.Native.Nat.{ℕ}
 use lib.IntN.{ℤ}
 use lib.ListN.{length}
-use Rattle.arithmetic.specs.Tests.{true-false}
+use Rattle.arithmetic.specs.Laws.Tests.{true-false}
 use Rattle.geometry.specs.declared.settings.Settings.{Settings}
 use Rattle.model.specs.declared.State.{State}
 use Rattle.model.specs.declared.answers.MakeAnswer.{MakeAnswer}

@@ -11,7 +11,7 @@ use lib.Dec.{eqb}
 use lib.IntN.{ℤ}
 use lib.ListN.{length, getD}
 use borrow.Author.Tests.{eqb-true, eq-eqb, ne-eqb}
-use Rattle.arithmetic.specs.Linear.{and-t}
+use Rattle.arithmetic.specs.Laws.Linear.{and-t}
 use Rattle.model.specs.declared.Record.{Record}
 use Rattle.model.specs.declared.State.{State}
 use Rattle.model.specs.Lists.{joinBelow}

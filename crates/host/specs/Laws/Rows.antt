@@ -17,7 +17,7 @@ use mir.Syntax.{w32, w64}
 use mir.Val.{SFits, toZ, ofZ}
 use mir.Facts.{toZ-ofZ}
 use borrow.Author.Tests.{lt-ltb, le-ltb, eqb-true, not-true, not-false}
-use Rattle.arithmetic.specs.Linear.{and-t, ints, dif, nat-eq, fits32, fits64}
+use Rattle.arithmetic.specs.Laws.Linear.{and-t, ints, dif, nat-eq, fits32, fits64}
 use Rattle.model.specs.declared.State.{State}
 use Rattle.model.specs.Calls.{Reply, refused, tooMany, answered}
 use Rattle.host.specs.Rows.{signed, stateIn, withState, rowsFit, rectOf}

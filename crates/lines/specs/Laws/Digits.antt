@@ -19,8 +19,8 @@ use lib.Dec.{ltb, leb}
 use lib.ListN.{length, take, drop, getD, length-append, length-drop, drop-of-length-le}
 use lib.Seq.{drop-cons, take-all}
 use borrow.Author.Tests.{ltb-true, lt-ltb, le-ltb, le-leb, leb-true}
-use Rattle.arithmetic.specs.Tests.{byBool, true-false}
-use Rattle.arithmetic.specs.Linear.{and-t}
+use Rattle.arithmetic.specs.Laws.Tests.{byBool, true-false}
+use Rattle.arithmetic.specs.Laws.Linear.{and-t}
 use Rattle.lines.specs.Text.{digits, decimal, number, u32, i32, Within}
 use Rattle.lines.specs.Reading.{Part, Put, shifted, valueFrom}
 

@@ -16,8 +16,8 @@ use lib.Dec.{eqb}
 use lib.ListN.{length, take, drop, getD, length-append, length-drop, drop-of-length-le}
 use lib.Seq.{drop-cons, take-append-seam, drop-append-seam, drop-drop, drop-length}
 use borrow.Author.Tests.{eq-eqb, ne-eqb, eqb-true}
-use Rattle.arithmetic.specs.Tests.{byBool, true-false}
-use Rattle.arithmetic.specs.Linear.{and-t}
+use Rattle.arithmetic.specs.Laws.Tests.{byBool, true-false}
+use Rattle.arithmetic.specs.Laws.Linear.{and-t}
 use Rattle.lines.specs.Text.{decimal, number, Kind, u32, i32, WithinAll, fields}
 use Rattle.lines.specs.Reading.{Part, Ends, Reads, ReadsAt, Whole, untilComma, fromComma}
 use Rattle.lines.specs.Lines.{four, three}

@@ -14,7 +14,7 @@ use lib.IntN.{ℤ}
 use lib.Dec.{leb, eqb}
 use lib.ListN.{length, drop, getD, length-drop}
 use borrow.Author.Tests.{leb-true, le-leb}
-use Rattle.arithmetic.specs.Tests.{true-false}
+use Rattle.arithmetic.specs.Laws.Tests.{true-false}
 use Rattle.lines.specs.Text.{WithinAll, fields}
 use Rattle.lines.specs.Reading.{ReadsAt, Whole}
 use Rattle.lines.specs.Lines.{letter, kinds, values, four, three, Begins, LineOf}

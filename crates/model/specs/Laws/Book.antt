@@ -11,7 +11,7 @@ use native.Mathlib.Decide.{ℕ-discrete, decLe}
 use native.Mathlib.Omega.{arith}
 use lib.Dec.{eqb}
 use borrow.Author.Tests.{eqb-true}
-use Rattle.arithmetic.specs.Tests.{byBool}
+use Rattle.arithmetic.specs.Laws.Tests.{byBool}
 use Rattle.geometry.specs.declared.aabb.AABB.{AABB}
 use Rattle.model.specs.declared.Dot.{Dot}
 use Rattle.model.specs.Sums.{indicator, sumOver}

@@ -14,7 +14,7 @@ use Rattle.geometry.specs.declared.settings.Settings.{Settings}
 use Rattle.geometry.specs.declared.node_data.NodeData.{NodeData}
 use Rattle.model.specs.Sums.{sumOver, sumBelow}
 use Rattle.model.specs.Laws.Sums.{sumOver-one, sumBelow-ext, sumBelow-term, sumBelow-zero, sumBelow-some, byDec}
-use Rattle.arithmetic.specs.Tests.{byBool, true-false}
+use Rattle.arithmetic.specs.Laws.Tests.{byBool, true-false}
 use Rattle.model.specs.Trees.{Placed, Tree, leaf, branch, sumDots, sumGroups, AllDots, Shallow, size}
 use Rattle.model.specs.Insert.{routeDot}
 use Rattle.geometry.specs.Cells.{childData}

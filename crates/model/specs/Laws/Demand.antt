@@ -19,7 +19,7 @@ use Rattle.geometry.specs.declared.settings.Settings.{Settings}
 use Rattle.model.specs.Sums.{indicator, sumOver}
 use Rattle.model.specs.Laws.Sums.{indicator-same, indicator-other, indicator-le, sumOver-one, byDec, sumOver-map}
 use Rattle.model.specs.Lists.{count}
-use Rattle.arithmetic.specs.Tests.{byBool, true-false}
+use Rattle.arithmetic.specs.Laws.Tests.{byBool, true-false}
 use Rattle.model.specs.declared.Dot.{Dot}
 use Rattle.model.specs.Dots.{isHit}
 use Rattle.geometry.specs.Settings.{D}

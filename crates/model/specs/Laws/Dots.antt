@@ -10,7 +10,7 @@ use Prim.Native.Nat.{ℕ}
 use lib.IntN.{ℤ}
 use borrow.Author.Tests.{eqb-true, eq-eqb}
 use Rattle.arithmetic.specs.Ints.{eqZ}
-use Rattle.arithmetic.specs.Linear.{eq-t, t-eq, nat-eq, and-t}
+use Rattle.arithmetic.specs.Laws.Linear.{eq-t, t-eq, nat-eq, and-t}
 use Rattle.geometry.specs.declared.aabb.AABB.{AABB}
 use Rattle.geometry.specs.declared.node_data.NodeData.{NodeData}
 use Rattle.geometry.specs.Rectangles.{sameRect}

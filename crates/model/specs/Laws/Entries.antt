@@ -17,7 +17,7 @@ use Rattle.model.specs.Laws.Sums.{indicator-same, indicator-other, sumOv
 use Rattle.model.specs.Laws.Sums.{sumBelow-add, sumBelow-zero, sumBelow-only, byDec, sumOver-map}
 use Rattle.model.specs.Lists.{joinBelow, All, count}
 use Rattle.model.specs.Laws.Lists.{length-joinBelow, sumOver-joinBelow}
-use Rattle.arithmetic.specs.Tests.{byBool}
+use Rattle.arithmetic.specs.Laws.Tests.{byBool}
 use Rattle.model.specs.Trees.{Placed, Tree, leaf, branch, childNode, groupCount, placeCount, atPlace}
 use Rattle.model.specs.Shapes.{Shape, Valid, below}
 use Rattle.model.specs.Layout.{none, firstNode, NodeEntry, PlaceEntry, treeNodes, freeGroupNodes}

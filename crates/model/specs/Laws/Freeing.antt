@@ -8,7 +8,7 @@ use mathlib.Core.Bool.{Bool, true}
 use Prim.Native.Nat.{ℕ, zero, suc, _<_}
 use native.Mathlib.Omega.{arith}
 use lib.ListN.{length, length-append}
-use Rattle.arithmetic.specs.Tests.{byBool}
+use Rattle.arithmetic.specs.Laws.Tests.{byBool}
 use Rattle.model.specs.Sums.{sumBelow}
 use Rattle.model.specs.Lists.{filter}
 use Rattle.model.specs.Laws.Lists.{filter-append, map-append}

@@ -19,7 +19,7 @@ use Rattle.model.specs.Sums.{changed, sumOver, sumBelow}
 use Rattle.model.specs.Laws.Sums.{changed-other, changed-all, sumOver-one, sumBelow-term, sumBelow-changed}
 use Rattle.model.specs.Lists.{All}
 use Rattle.model.specs.Laws.Lists.{all-map}
-use Rattle.arithmetic.specs.Tests.{byBool, true-false}
+use Rattle.arithmetic.specs.Laws.Tests.{byBool, true-false}
 use Rattle.model.specs.Trees.{Placed, Tree, leaf, branch, sumDots, sumGroups, AllDots, Shallow}
 use Rattle.model.specs.Dots.{acceptableDot}
 use Rattle.geometry.specs.Cells.{childData, route, maySplit}

@@ -9,10 +9,10 @@ use Prim.Native.Nat.{ℕ, _+_, _*_, _≤_}
 use native.Mathlib.Omega.{arith}
 use lib.ListN.{length, replicate, length-replicate}
 use lib.Dec.{eqb, leb}
-use Rattle.arithmetic.specs.Linear.{and-t}
+use Rattle.arithmetic.specs.Laws.Linear.{and-t}
 use borrow.Author.Tests.{leb-true, le-leb, eq-eqb}
 use Rattle.model.specs.Laws.Lists.{length-joinBelow}
-use Rattle.arithmetic.specs.Tests.{byBool}
+use Rattle.arithmetic.specs.Laws.Tests.{byBool}
 use Rattle.geometry.specs.Settings.{inRange}
 use Rattle.model.specs.Shapes.{Shape, Valid}
 use Rattle.model.specs.Layout.{World, groupsOf, placesOf, nodesRight, dotsRight, marksRight, lengthsRight, NodeEntry, PlaceEntry}

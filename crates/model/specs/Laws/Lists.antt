@@ -11,7 +11,7 @@ use Prim.Native.Nat.{ℕ, zero, suc, _*_, _≤_, _<_}
 use native.Mathlib.Nat.{le-refl, zero-mul, suc-mul}
 use native.Mathlib.Omega.{arith}
 use lib.ListN.{length, length-append}
-use Rattle.arithmetic.specs.Tests.{byBool}
+use Rattle.arithmetic.specs.Laws.Tests.{byBool}
 use Rattle.model.specs.Sums.{sumOver, sumBelow}
 use Rattle.model.specs.Lists.{joinBelow, filter, All, upTo}
 use Rattle.model.specs.Laws.Sums.{sumOver-append}

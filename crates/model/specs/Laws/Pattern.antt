@@ -17,7 +17,7 @@ use lib.ListN.{length, replicate}
 use Rattle.model.specs.Laws.Sums.{indicator-same, sumOver-one, sumBelow-term, byDec}
 use Rattle.model.specs.Lists.{count}
 use Rattle.model.specs.Laws.Lists.{length-map}
-use Rattle.arithmetic.specs.Tests.{byBool, true-false}
+use Rattle.arithmetic.specs.Laws.Tests.{byBool, true-false}
 use Rattle.model.specs.Trees.{Placed, Tree, leaf, branch, childNode, size}
 use Rattle.model.specs.Shapes.{Shape, Valid, WellFormed}
 use Rattle.model.specs.Layout.{World, none, branchMark, blank, layout, cleared, lengthsRight, Holds}

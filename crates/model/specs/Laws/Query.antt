@@ -17,7 +17,7 @@ use Rattle.model.specs.Sums.{sumBelow}
 use Rattle.model.specs.Laws.Sums.{sumOver-one, sumBelow-mul, sumBelow-ext, sumBelow-le, sumBelow-term, sumBelow-some}
 use Rattle.model.specs.Lists.{filter}
 use Rattle.model.specs.Laws.Lists.{length-join, all-map, joinBelow-ext, filter-none, filter-joinBelow}
-use Rattle.arithmetic.specs.Tests.{byBool, true-false}
+use Rattle.arithmetic.specs.Laws.Tests.{byBool, true-false}
 use Rattle.model.specs.Trees.{Placed, Tree, leaf, branch, sumGroups, AllDots, Shallow, size}
 use Rattle.model.specs.Laws.Trees.{dots, allDots-dots}
 use Rattle.model.specs.Insert.{routeDot}

@@ -15,7 +15,7 @@ use Rattle.geometry.specs.declared.node_data.NodeData.{NodeData}
 use Rattle.model.specs.Sums.{sumOver}
 use Rattle.model.specs.Laws.Sums.{indicator-other, sumOver-le, changed-other, changed-all, sumBelow-some, sumBelow-changed, byDec}
 use Rattle.model.specs.Lists.{All}
-use Rattle.arithmetic.specs.Tests.{byBool, true-false}
+use Rattle.arithmetic.specs.Laws.Tests.{byBool, true-false}
 use Rattle.model.specs.Trees.{Placed, Tree, leaf, branch, sumDots, sumGroups, AllDots}
 use Rattle.model.specs.Insert.{routeDot}
 use Rattle.model.specs.declared.Dot.{Dot}

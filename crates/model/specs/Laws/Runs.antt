@@ -14,7 +14,7 @@ use lib.Dec.{eqb, ltb}
 use Rattle.geometry.specs.declared.aabb.AABB.{AABB}
 use Rattle.geometry.specs.declared.settings.Settings.{Settings}
 use Rattle.geometry.specs.Rectangles.{inverted, farOut}
-use Rattle.arithmetic.specs.Tests.{byBool, true-false}
+use Rattle.arithmetic.specs.Laws.Tests.{byBool, true-false}
 use Rattle.model.specs.Lists.{All}
 use Rattle.model.specs.Trees.{size}
 use Rattle.geometry.specs.Settings.{rootOf, contains, inRange}

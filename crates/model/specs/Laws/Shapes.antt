@@ -13,14 +13,14 @@ use native.Mathlib.Omega.{arith}
 use lib.ListN.{length, length-append}
 use lib.Dec.{leb, ltb}
 use lib.IntN.{pos}
-use Rattle.arithmetic.specs.Linear.{and-t}
+use Rattle.arithmetic.specs.Laws.Linear.{and-t}
 use Rattle.geometry.specs.declared.aabb.AABB.{AABB}
 use Rattle.geometry.specs.declared.settings.Settings.{Settings}
 use Rattle.model.specs.Sums.{indicator, sumOver, sumBelow}
 use Rattle.model.specs.Laws.Sums.{indicator-same, indicator-other, sumOver-append, sumOver-one, sumOver-map, sumBelow-ext}
 use Rattle.model.specs.Laws.Sums.{sumBelow-le, sumBelow-add, sumBelow-zero, sumBelow-only, byDec}
 use Rattle.model.specs.Lists.{upTo, count}
-use Rattle.arithmetic.specs.Tests.{byBool, true-false}
+use Rattle.arithmetic.specs.Laws.Tests.{byBool, true-false}
 use Rattle.geometry.specs.Settings.{rootFits, between, inRange, D}
 use Rattle.model.specs.declared.Dot.{Dot}
 use Rattle.model.specs.Dots.{acceptableDot}

@@ -9,7 +9,7 @@ use Prim.Native.Nat.{ℕ, zero, suc, _+_, _≤_, _<_}
 use native.Mathlib.Omega.{arith}
 use native.Mathlib.Nat.{not-suc-le-zero, le-refl}
 use native.Mathlib.Decide.{ℕ-discrete}
-use Rattle.arithmetic.specs.Tests.{byBool}
+use Rattle.arithmetic.specs.Laws.Tests.{byBool}
 use Rattle.model.specs.Sums.{sumOver, sumBelow, indicator, changed}
 use Rattle.model.specs.Laws.Sums.{sumBelow-ext, indicator-same, sumBelow-term, changed-same, changed-other, byDec}
 use Rattle.model.specs.Trees.{Tree, leaf, branch, childNode, atPlace}

@@ -9,7 +9,7 @@ use native.Mathlib.Nat.{le-refl}
 use native.Mathlib.Omega.{arith}
 use lib.IntN.{ℤ}
 use lib.ListN.{length}
-use Rattle.arithmetic.specs.Tests.{byBool}
+use Rattle.arithmetic.specs.Laws.Tests.{byBool}
 use Rattle.model.specs.Sums.{indicator, sumBelow}
 use Rattle.model.specs.Laws.Sums.{sumBelow-le, sumBelow-term}
 use Rattle.model.specs.Trees.{Tree, leaf, branch, childNode}

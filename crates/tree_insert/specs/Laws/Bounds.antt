@@ -9,8 +9,8 @@ use Prim.Native.Nat.{ℕ, _+_, _≤_, _<_}
 use native.Mathlib.Omega.{arith}
 use lib.Dec.{eqb}
 use borrow.Author.Tests.{eq-eqb, ne-eqb}
-use Rattle.arithmetic.specs.Tests.{byBool, true-false}
-use Rattle.arithmetic.specs.Linear.{and-t}
+use Rattle.arithmetic.specs.Laws.Tests.{byBool, true-false}
+use Rattle.arithmetic.specs.Laws.Linear.{and-t}
 use Rattle.geometry.specs.declared.node_data.NodeData.{NodeData}
 use Rattle.geometry.specs.declared.aabb.AABB.{AABB}
 use Rattle.geometry.specs.declared.bounds.Bounds.{Bounds}

@@ -11,7 +11,7 @@ use native.Mathlib.Omega.{arith}
 use lib.ListN.{length}
 use lib.Dec.{leb}
 use borrow.Author.Tests.{le-leb, lt-leb, leb-true}
-use Rattle.arithmetic.specs.Linear.{same-test}
+use Rattle.arithmetic.specs.Laws.Linear.{same-test}
 use Rattle.model.specs.Layout.{none}
 use Rattle.model.specs.Memory.{firstAt, Mem, FreeGroups}
 use Rattle.model.specs.Sums.{indicator, sumOver}

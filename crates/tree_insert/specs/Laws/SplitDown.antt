@@ -9,7 +9,7 @@ use Prim.Native.Nat.{ℕ, suc, zero, _-_, _≤_, _<_, _+_}
 use native.Mathlib.Omega.{arith}
 use lib.ListN.{length}
 use lib.IntN.{ℤ}
-use Rattle.arithmetic.specs.Tests.{byBool}
+use Rattle.arithmetic.specs.Laws.Tests.{byBool}
 use Rattle.geometry.specs.declared.node_data.NodeData.{NodeData}
 use Rattle.geometry.specs.declared.settings.Settings.{Settings}
 use Rattle.geometry.specs.Cells.{childData, InRange, route, maySplit, routeCell}
@@ -84,7 +84,7 @@ must s (suc below) n r chain (g ∷ free) left e some enough =
     (λ m. absurd (omega (arith, rw m at e)))
 
 must-may : (s : Settings) (n : NodeData) (chain : List Placed) → mustSplit s n chain ≡ true → maySplit s n ≡ true
-must-may s n chain e = byBool (maySplit s n) (λ m. m) (λ m. Rattle.arithmetic.specs.Tests.true-false (sym (rw m at e)))
+must-may s n chain e = byBool (maySplit s n) (λ m. m) (λ m. Rattle.arithmetic.specs.Laws.Tests.true-false (sym (rw m at e)))
 
 dealt-length : (n : NodeData) (chain : List Placed) (i : ℕ) → i < 5 → length (deal n (λ j. []) chain i) ≤ length chain
 dealt-length n chain i l =

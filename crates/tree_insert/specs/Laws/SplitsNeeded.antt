@@ -12,8 +12,8 @@ use lib.IntN.{ℤ}
 use lib.ListN.{length}
 use lib.Dec.{eqb, leb}
 use borrow.Author.Tests.{eq-eqb}
-use Rattle.arithmetic.specs.Tests.{true-false}
-use Rattle.arithmetic.specs.Linear.{and-t}
+use Rattle.arithmetic.specs.Laws.Tests.{true-false}
+use Rattle.arithmetic.specs.Laws.Linear.{and-t}
 use Rattle.geometry.specs.declared.bounds.Bounds.{Bounds}
 use Rattle.geometry.specs.Bounds.{inBounds, allBounds, boundsBelow}
 use Rattle.geometry.specs.declared.aabb.AABB.{AABB}

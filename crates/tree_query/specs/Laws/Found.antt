@@ -8,7 +8,7 @@ use mathlib.Core.Bool.{Bool, cond}
 use Prim.Native.Nat.{ℕ, _+_, _≤_}
 use native.Mathlib.Omega.{arith}
 use lib.ListN.{length, length-append}
-use Rattle.arithmetic.specs.Tests.{byBool}
+use Rattle.arithmetic.specs.Laws.Tests.{byBool}
 use Rattle.geometry.specs.declared.aabb.AABB.{AABB}
 use Rattle.geometry.specs.declared.node_data.NodeData.{NodeData}
 use Rattle.geometry.specs.Cells.{childData, opens}

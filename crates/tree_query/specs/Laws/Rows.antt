@@ -11,7 +11,7 @@ use lib.ListN.{length, drop, set, length-set}
 use lib.Seq.{sets, sets-eq}
 use lib.Dec.{ltb}
 use borrow.Author.Tests.{lt-ltb, le-ltb}
-use Rattle.arithmetic.specs.Tests.{byBool}
+use Rattle.arithmetic.specs.Laws.Tests.{byBool}
 use Rattle.tree_query.specs.Rows.{kept, keptAll}
 
 module _ {A : Type 0} (room : ℕ) where

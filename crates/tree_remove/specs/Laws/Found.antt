@@ -5,7 +5,7 @@ use mathlib.Core.Path.{_≡_, refl, ap, sym}
 use mathlib.Core.List.{List, _∷_, _++_, []}
 use mathlib.Core.Bool.{true, false}
 use Prim.Native.Nat.{ℕ}
-use Rattle.arithmetic.specs.Tests.{byBool, true-false}
+use Rattle.arithmetic.specs.Laws.Tests.{byBool, true-false}
 use Rattle.model.specs.Trees.{Placed}
 use Rattle.model.specs.Remove.{firstOut, firstPlace, firstHas}
 use Rattle.model.specs.Layout.{none}

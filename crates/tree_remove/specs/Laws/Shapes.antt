@@ -10,7 +10,7 @@ use native.Mathlib.Omega.{arith}
 use lib.IntN.{ℤ}
 use lib.ListN.{length, replicate, length-replicate, length-append}
 use lib.Dec.{eqb}
-use Rattle.arithmetic.specs.Tests.{byBool}
+use Rattle.arithmetic.specs.Laws.Tests.{byBool}
 use Rattle.geometry.specs.declared.aabb.AABB.{AABB}
 use Rattle.model.specs.declared.State.{State}
 use Rattle.model.specs.Sums.{sumOver}

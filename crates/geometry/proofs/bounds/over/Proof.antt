@@ -1,7 +1,7 @@
 -- Each way by its test.
 use mir.Syntax.{w32}
 use borrow.Author.Needs.{needs}
-use Rattle.arithmetic.specs.Linear.{got}
+use Rattle.arithmetic.specs.Laws.Linear.{got}
 use Rattle.geometry.proofs.bounds.over.Statement.{statement}
 use Rattle.geometry.proofs.bounds.over.Tie as tie
 

@@ -1,6 +1,6 @@
 -- The sum fits by Laws.Ranges.
 use borrow.Author.Needs.{needs}
-use Rattle.arithmetic.specs.Linear.{half-fits}
+use Rattle.arithmetic.specs.Laws.Linear.{half-fits}
 use Rattle.geometry.specs.Laws.Ranges.{root-fits}
 use Rattle.geometry.proofs.centered_aabb.root_center.Statement.{statement}
 use Rattle.geometry.proofs.centered_aabb.root_center.Tie as tie

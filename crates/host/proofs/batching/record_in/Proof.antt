@@ -2,7 +2,7 @@
 use Prim.Native.Nat.{_+_, _*_}
 use mir.Syntax.{w32}
 use lib.ListN.{getD}
-use Rattle.arithmetic.specs.Linear.{got}
+use Rattle.arithmetic.specs.Laws.Linear.{got}
 use Rattle.host.specs.Records.{recordIn}
 use borrow.Author.Needs.{needs}
 use Rattle.host.proofs.batching.record_in.Statement.{statement}

@@ -1,7 +1,7 @@
 -- The four numbers by `signed`, and three words.
 use mir.Syntax.{w32}
 use lib.ListN.{getD}
-use Rattle.arithmetic.specs.Linear.{got}
+use Rattle.arithmetic.specs.Laws.Linear.{got}
 use Rattle.host.specs.Rows.{settingsIn}
 use borrow.Author.Needs.{needs}
 use Rattle.host.proofs.rows.settings_in.Statement.{statement}

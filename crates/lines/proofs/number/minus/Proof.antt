@@ -7,7 +7,7 @@ use mir.Facts.{toZ-ofZ, toZ-pos}
 use mir.Syntax.{w32, w64}
 use mir.Val.{SFits, toZ}
 use borrow.Author.Needs.{needs}
-use Rattle.arithmetic.specs.Linear.{wide, fits32, up-neg, dn-neg}
+use Rattle.arithmetic.specs.Laws.Linear.{wide, fits32, up-neg, dn-neg}
 use Rattle.lines.proofs.number.minus.Statement.{statement}
 use Rattle.lines.proofs.number.minus.Tie as tie
 

@@ -6,7 +6,7 @@ use mir.Syntax.{w32}
 use borrow.Author.Tests.{eq-eqb, ne-eqb}
 use borrow.Author.Needs.{needs}
 use Rattle.arithmetic.specs.Ints.{maxZ, minZ}
-use Rattle.arithmetic.specs.Linear.{got}
+use Rattle.arithmetic.specs.Laws.Linear.{got}
 use Rattle.geometry.proofs.Fields.{ReadBounds, ReadCell}
 use Rattle.geometry.specs.Bounds.{quarterBounds, boundsBelow}
 use Rattle.geometry.proofs.bounds.Bounds.below.Statement.{statement}

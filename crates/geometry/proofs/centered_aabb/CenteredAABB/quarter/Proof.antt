@@ -3,7 +3,7 @@ use mathlib.Core.Path.{_∙_}
 use lib.Signed.{shrZ}
 use mir.Syntax.{w32}
 use borrow.Author.Needs.{needs}
-use Rattle.arithmetic.specs.Linear.{got}
+use Rattle.arithmetic.specs.Laws.Linear.{got}
 use Rattle.geometry.proofs.Fields.{ReadCell}
 use Rattle.geometry.specs.Cells.{childCentre, quarterCell}
 use Rattle.geometry.proofs.centered_aabb.CenteredAABB.quarter.Statement.{statement}

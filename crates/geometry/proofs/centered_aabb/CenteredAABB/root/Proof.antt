@@ -1,7 +1,7 @@
 -- The root's cell: root_center and half on each axis.
 use mir.Syntax.{w32}
 use borrow.Author.Needs.{needs}
-use Rattle.arithmetic.specs.Linear.{got}
+use Rattle.arithmetic.specs.Laws.Linear.{got}
 use Rattle.geometry.specs.Cells.{rootCell}
 use Rattle.geometry.specs.Laws.Ranges.{root-axes}
 use Rattle.geometry.proofs.centered_aabb.CenteredAABB.root.Statement.{statement}

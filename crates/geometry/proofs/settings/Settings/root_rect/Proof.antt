@@ -1,7 +1,7 @@
 -- The root's corners: far_edge on each axis.
 use mir.Syntax.{w32}
 use borrow.Author.Needs.{needs}
-use Rattle.arithmetic.specs.Linear.{got}
+use Rattle.arithmetic.specs.Laws.Linear.{got}
 use Rattle.geometry.specs.Laws.Ranges.{root-axes}
 use Rattle.geometry.specs.Settings.{rootRect}
 use Rattle.geometry.proofs.settings.Settings.root_rect.Statement.{statement}

@@ -3,7 +3,7 @@
 --     same-bool    a test that two Bools are one, as an equation
 use mathlib.Core.Path.{_≡_, refl, sym}
 use mathlib.Core.Bool.{Bool, true, false, not, cond, _&&_}
-use Rattle.arithmetic.specs.Linear.{and-t}
+use Rattle.arithmetic.specs.Laws.Linear.{and-t}
 
 abbrev pub both : (Bool → Bool) → Bool
 both f = f true && f false
