@@ -48,7 +48,8 @@ fn insert_record(
     dot: Dot,
 ) -> Recorded
     requires { ⌜ IsTree state (now nodes) (now dots) (now rects) ⌝ }
-    ensures { λ r. ⌜ RecordCarriedOut (carryOut (recordOf 0 dot)) state (now (nodes .entry)) (now (dots .entry)) (now (rects .entry)) (r .state) (now (nodes .exit)) (now (dots .exit)) (now (rects .exit)) (r .word) ⌝ }
+    ensures { λ r. ⌜ RecordCarriedOut (carryOut (recordOf 0 dot)) state (now (nodes .entry)) (now (dots .entry)) (now (rects .entry)) (r .state)
+        (now (nodes .exit)) (now (dots .exit)) (now (rects .exit)) (r .word) ⌝ }
 {
     match insert_dot(state, nodes, dots, rects, dot) {
         InsertAnswer::Refused(refusal) => Recorded {
@@ -71,7 +72,8 @@ fn remove_record(
     dot: Dot,
 ) -> Recorded
     requires { ⌜ IsTree state (now nodes) (now dots) (now rects) ⌝ }
-    ensures { λ r. ⌜ RecordCarriedOut (carryOut (recordOf 1 dot)) state (now (nodes .entry)) (now (dots .entry)) (now (rects .entry)) (r .state) (now (nodes .exit)) (now (dots .exit)) (now (rects .exit)) (r .word) ⌝ }
+    ensures { λ r. ⌜ RecordCarriedOut (carryOut (recordOf 1 dot)) state (now (nodes .entry)) (now (dots .entry)) (now (rects .entry)) (r .state)
+        (now (nodes .exit)) (now (dots .exit)) (now (rects .exit)) (r .word) ⌝ }
 {
     match remove_dot(state, nodes, dots, rects, dot.id, dot.rect) {
         RemoveAnswer::Refused(refusal) => Recorded {
@@ -89,7 +91,8 @@ fn remove_record(
 // A cleanup, with its answer word; its record's dot is not looked at.
 fn cleanup_record(state: State, nodes: &mut [u32], dots: &[u32], rects: &[i32]) -> Recorded
     requires { ⌜ IsTree state (now nodes) (now dots) (now rects) ⌝ }
-    ensures { λ r. ⌜ ((dot : Dot) → RecordCarriedOut (carryOut (recordOf 2 dot)) state (now (nodes .entry)) (now (dots .entry)) (now (rects .entry)) (r .state) (now (nodes .exit)) (now (dots .exit)) (now (rects .exit)) (r .word)) ⌝ }
+    ensures { λ r. ⌜ ((dot : Dot) → RecordCarriedOut (carryOut (recordOf 2 dot)) state (now (nodes .entry)) (now (dots .entry)) (now (rects .entry))
+        (r .state) (now (nodes .exit)) (now (dots .exit)) (now (rects .exit)) (r .word)) ⌝ }
 {
     match cleanup_tree(state, nodes) {
         CleanupAnswer::Refused(refusal) => Recorded {
@@ -112,7 +115,8 @@ fn carry_out(
     record: Record,
 ) -> Recorded
     requires { ⌜ IsTree state (now nodes) (now dots) (now rects) ⌝ }
-    ensures { λ r. ⌜ RecordCarriedOut (carryOut «record») state (now (nodes .entry)) (now (dots .entry)) (now (rects .entry)) (r .state) (now (nodes .exit)) (now (dots .exit)) (now (rects .exit)) (r .word) ⌝ }
+    ensures { λ r. ⌜ RecordCarriedOut (carryOut «record») state (now (nodes .entry)) (now (dots .entry)) (now (rects .entry)) (r .state)
+        (now (nodes .exit)) (now (dots .exit)) (now (rects .exit)) (r .word) ⌝ }
 {
     let kind = record.kind;
     let dot = record.dot;
@@ -142,7 +146,8 @@ pub fn one(
     rects: &mut [i32],
 ) -> Batched
     requires { ⌜ IsTree (batched .state) (now nodes) (now dots) (now rects) × (i < length (now answers)) ⌝ }
-    ensures { λ r. ⌜ Stepped «record» i batched (now (answers .entry)) (now (nodes .entry)) (now (dots .entry)) (now (rects .entry)) r (now (answers .exit)) (now (nodes .exit)) (now (dots .exit)) (now (rects .exit)) ⌝ }
+    ensures { λ r. ⌜ Stepped «record» i batched (now (answers .entry)) (now (nodes .entry)) (now (dots .entry)) (now (rects .entry)) r
+        (now (answers .exit)) (now (nodes .exit)) (now (dots .exit)) (now (rects .exit)) ⌝ }
 {
     let state = batched.state;
     let done = carry_out(state, nodes, dots, rects, record);

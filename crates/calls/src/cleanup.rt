@@ -14,7 +14,8 @@ pub fn cleanup(
     rects: &[i32],
     marks: &mut [u8],
 ) -> CleanupAnswer
-    ensures { λ r. ⌜ Cleanup (world state (now (nodes .entry)) (now (dots .entry)) (now (rects .entry)) (now (marks .entry))) (world (cleanupState state r) (now (nodes .exit)) (now (dots .exit)) (now (rects .exit)) (now (marks .exit))) (cleanupReply r) ⌝ }
+    ensures { λ r. ⌜ Cleanup (world state (now (nodes .entry)) (now (dots .entry)) (now (rects .entry)) (now (marks .entry)))
+        (world (cleanupState state r) (now (nodes .exit)) (now (dots .exit)) (now (rects .exit)) (now (marks .exit))) (cleanupReply r) ⌝ }
 {
     let refusal = check(state, nodes, dots, rects, marks);
     if refusal != 0 {

@@ -16,7 +16,8 @@ pub fn insert(
     marks: &mut [u8],
     dot: Dot,
 ) -> InsertAnswer
-    ensures { λ r. ⌜ Insert (world state (now (nodes .entry)) (now (dots .entry)) (now (rects .entry)) (now (marks .entry))) dot (world (insertState state r) (now (nodes .exit)) (now (dots .exit)) (now (rects .exit)) (now (marks .exit))) (insertReply r) ⌝ }
+    ensures { λ r. ⌜ Insert (world state (now (nodes .entry)) (now (dots .entry)) (now (rects .entry)) (now (marks .entry))) dot
+        (world (insertState state r) (now (nodes .exit)) (now (dots .exit)) (now (rects .exit)) (now (marks .exit))) (insertReply r) ⌝ }
 {
     let refusal = check(state, nodes, dots, rects, marks);
     if refusal != 0 {

@@ -15,7 +15,8 @@ pub fn leaves(
     marks: &mut [u8],
     row: &mut [i32],
 ) -> LeavesAnswer
-    ensures { λ r. ⌜ Leaves (world state (now (nodes .entry)) (now (dots .entry)) (now (rects .entry)) (now (marks .entry))) (now (row .entry)) (world state (now (nodes .exit)) (now (dots .exit)) (now (rects .exit)) (now (marks .exit))) (now (row .exit)) (leavesReply r) ⌝ }
+    ensures { λ r. ⌜ Leaves (world state (now (nodes .entry)) (now (dots .entry)) (now (rects .entry)) (now (marks .entry))) (now (row .entry))
+        (world state (now (nodes .exit)) (now (dots .exit)) (now (rects .exit)) (now (marks .exit))) (now (row .exit)) (leavesReply r) ⌝ }
 {
     let refusal = check(state, nodes, dots, rects, marks);
     if refusal != 0 {

@@ -16,7 +16,8 @@ pub fn make(
     rects: &mut [i32],
     marks: &mut [u8],
 ) -> MakeAnswer
-    ensures { λ r. ⌜ ((before : State) → Make (world before (now (nodes .entry)) (now (dots .entry)) (now (rects .entry)) (now (marks .entry))) settings (world (makeState before r) (now (nodes .exit)) (now (dots .exit)) (now (rects .exit)) (now (marks .exit))) (makeReply r)) ⌝ }
+    ensures { λ r. ⌜ ((before : State) → Make (world before (now (nodes .entry)) (now (dots .entry)) (now (rects .entry)) (now (marks .entry)))
+        settings (world (makeState before r) (now (nodes .exit)) (now (dots .exit)) (now (rects .exit)) (now (marks .exit))) (makeReply r)) ⌝ }
 {
     if !lengths_fit(nodes.len(), dots.len(), rects.len(), marks.len()) {
         return MakeAnswer::Refused(1);

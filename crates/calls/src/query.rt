@@ -17,7 +17,8 @@ pub fn query(
     rect: AABB,
     row: &mut [u32],
 ) -> QueryAnswer
-    ensures { λ r. ⌜ Query (world state (now (nodes .entry)) (now (dots .entry)) (now (rects .entry)) (now (marks .entry))) rect (now (row .entry)) (world state (now (nodes .exit)) (now (dots .exit)) (now (rects .exit)) (now (marks .exit))) (now (row .exit)) (queryReply r) ⌝ }
+    ensures { λ r. ⌜ Query (world state (now (nodes .entry)) (now (dots .entry)) (now (rects .entry)) (now (marks .entry))) rect (now (row .entry))
+        (world state (now (nodes .exit)) (now (dots .exit)) (now (rects .exit)) (now (marks .exit))) (now (row .exit)) (queryReply r) ⌝ }
 {
     let refusal = check(state, nodes, dots, rects, marks);
     if refusal != 0 {
@@ -35,7 +36,8 @@ pub fn all(
     marks: &mut [u8],
     row: &mut [u32],
 ) -> QueryAnswer
-    ensures { λ r. ⌜ All (world state (now (nodes .entry)) (now (dots .entry)) (now (rects .entry)) (now (marks .entry))) (now (row .entry)) (world state (now (nodes .exit)) (now (dots .exit)) (now (rects .exit)) (now (marks .exit))) (now (row .exit)) (queryReply r) ⌝ }
+    ensures { λ r. ⌜ All (world state (now (nodes .entry)) (now (dots .entry)) (now (rects .entry)) (now (marks .entry))) (now (row .entry))
+        (world state (now (nodes .exit)) (now (dots .exit)) (now (rects .exit)) (now (marks .exit))) (now (row .exit)) (queryReply r) ⌝ }
 {
     let refusal = check(state, nodes, dots, rects, marks);
     if refusal != 0 {

@@ -14,7 +14,8 @@ pub fn references(
     rects: &[i32],
     marks: &mut [u8],
 ) -> ReferencesAnswer
-    ensures { λ r. ⌜ References (world state (now (nodes .entry)) (now (dots .entry)) (now (rects .entry)) (now (marks .entry))) (world state (now (nodes .exit)) (now (dots .exit)) (now (rects .exit)) (now (marks .exit))) (referencesReply r) ⌝ }
+    ensures { λ r. ⌜ References (world state (now (nodes .entry)) (now (dots .entry)) (now (rects .entry)) (now (marks .entry)))
+        (world state (now (nodes .exit)) (now (dots .exit)) (now (rects .exit)) (now (marks .exit))) (referencesReply r) ⌝ }
 {
     let refusal = check(state, nodes, dots, rects, marks);
     if refusal != 0 {

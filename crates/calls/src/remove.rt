@@ -17,7 +17,8 @@ pub fn remove(
     id: u32,
     rect: AABB,
 ) -> RemoveAnswer
-    ensures { λ r. ⌜ Remove (world state (now (nodes .entry)) (now (dots .entry)) (now (rects .entry)) (now (marks .entry))) id rect (world (removeState state r) (now (nodes .exit)) (now (dots .exit)) (now (rects .exit)) (now (marks .exit))) (removeReply r) ⌝ }
+    ensures { λ r. ⌜ Remove (world state (now (nodes .entry)) (now (dots .entry)) (now (rects .entry)) (now (marks .entry))) id rect
+        (world (removeState state r) (now (nodes .exit)) (now (dots .exit)) (now (rects .exit)) (now (marks .exit))) (removeReply r) ⌝ }
 {
     let refusal = check(state, nodes, dots, rects, marks);
     if refusal != 0 {

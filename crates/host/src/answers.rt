@@ -1,7 +1,8 @@
 // What an exported call writes and returns, for each answer. A refusal leaves the rows as they were.
 ghost use mathlib.Core.Path.{_≡_};
 ghost use lib.ListN.{length};
-ghost use Rattle.model.specs.Answers.{makeReply, insertReply, insertState, removeReply, removeState, cleanupReply, cleanupState, queryReply, leavesReply, referencesReply};
+ghost use Rattle.model.specs.Answers.{makeReply, insertReply, insertState, removeReply, removeState, cleanupReply, cleanupState, queryReply};
+ghost use Rattle.model.specs.Answers.{leavesReply, referencesReply};
 ghost use Rattle.host.specs.Rows.{stateIn};
 ghost use Rattle.host.specs.Exports.{number, yesOrNo, hitsOpened, resultOf, stateRow, madeRow, Out};
 use crate::rows::answer_out;
@@ -33,7 +34,8 @@ pub fn make_out(state: &mut [u32], done: MakeAnswer) -> u64
 // Of an insert: the splits, 0.
 pub fn insert_out(state: &mut [u32], answer: &mut [u32], done: InsertAnswer) -> u64
     requires { ⌜ (length (now state) ≡ 10) × (length (now answer) ≡ 2) ⌝ }
-    ensures { λ r. ⌜ (now (state .exit) ≡ stateRow (insertState (stateIn (now (state .entry))) done) (now (state .entry)) (insertReply done)) × Out number (insertReply done) (now (answer .entry)) (now (answer .exit)) r ⌝ }
+    ensures { λ r. ⌜ (now (state .exit) ≡ stateRow (insertState (stateIn (now (state .entry))) done) (now (state .entry)) (insertReply done))
+        × Out number (insertReply done) (now (answer .entry)) (now (answer .exit)) r ⌝ }
 {
     match done {
         InsertAnswer::Refused(refusal) => refusal as u64,
@@ -48,7 +50,8 @@ pub fn insert_out(state: &mut [u32], answer: &mut [u32], done: InsertAnswer) -> 
 // Of a remove: 1 for yes or 0 for no, 0.
 pub fn remove_out(state: &mut [u32], answer: &mut [u32], done: RemoveAnswer) -> u64
     requires { ⌜ (length (now state) ≡ 10) × (length (now answer) ≡ 2) ⌝ }
-    ensures { λ r. ⌜ (now (state .exit) ≡ stateRow (removeState (stateIn (now (state .entry))) done) (now (state .entry)) (removeReply done)) × Out yesOrNo (removeReply done) (now (answer .entry)) (now (answer .exit)) r ⌝ }
+    ensures { λ r. ⌜ (now (state .exit) ≡ stateRow (removeState (stateIn (now (state .entry))) done) (now (state .entry)) (removeReply done))
+        × Out yesOrNo (removeReply done) (now (answer .entry)) (now (answer .exit)) r ⌝ }
 {
     match done {
         RemoveAnswer::Refused(refusal) => refusal as u64,
@@ -67,7 +70,8 @@ pub fn remove_out(state: &mut [u32], answer: &mut [u32], done: RemoveAnswer) -> 
 // Of a cleanup: 1 for yes or 0 for no, 0.
 pub fn cleanup_out(state: &mut [u32], answer: &mut [u32], done: CleanupAnswer) -> u64
     requires { ⌜ (length (now state) ≡ 10) × (length (now answer) ≡ 2) ⌝ }
-    ensures { λ r. ⌜ (now (state .exit) ≡ stateRow (cleanupState (stateIn (now (state .entry))) done) (now (state .entry)) (cleanupReply done)) × Out yesOrNo (cleanupReply done) (now (answer .entry)) (now (answer .exit)) r ⌝ }
+    ensures { λ r. ⌜ (now (state .exit) ≡ stateRow (cleanupState (stateIn (now (state .entry))) done) (now (state .entry)) (cleanupReply done))
+        × Out yesOrNo (cleanupReply done) (now (answer .entry)) (now (answer .exit)) r ⌝ }
 {
     match done {
         CleanupAnswer::Refused(refusal) => refusal as u64,

@@ -28,7 +28,10 @@ pub extern "C" fn krakvinge_query(
     ids: &mut [u32],
     answer: &mut [u32],
 ) -> u64
-    ensures { λ r. ⌜ Queries (rectOf x1 y1 x2 y2) (lent (now (state .entry)) (now (nodes .entry)) (now (dots .entry)) (now (rects .entry)) (now (marks .entry)) (now (answer .entry))) (now (ids .entry)) (lent (now (state .exit)) (now (nodes .exit)) (now (dots .exit)) (now (rects .exit)) (now (marks .exit)) (now (answer .exit))) (now (ids .exit)) r ⌝ }
+    ensures { λ r. ⌜ Queries (rectOf x1 y1 x2 y2)
+        (lent (now (state .entry)) (now (nodes .entry)) (now (dots .entry)) (now (rects .entry)) (now (marks .entry)) (now (answer .entry)))
+        (now (ids .entry)) (lent (now (state .exit)) (now (nodes .exit)) (now (dots .exit)) (now (rects .exit)) (now (marks .exit))
+        (now (answer .exit))) (now (ids .exit)) r ⌝ }
 {
     if !rows_fit(state, answer) {
         return 1;
@@ -50,7 +53,9 @@ pub extern "C" fn krakvinge_all(
     ids: &mut [u32],
     answer: &mut [u32],
 ) -> u64
-    ensures { λ r. ⌜ ListsAll (lent (now (state .entry)) (now (nodes .entry)) (now (dots .entry)) (now (rects .entry)) (now (marks .entry)) (now (answer .entry))) (now (ids .entry)) (lent (now (state .exit)) (now (nodes .exit)) (now (dots .exit)) (now (rects .exit)) (now (marks .exit)) (now (answer .exit))) (now (ids .exit)) r ⌝ }
+    ensures { λ r. ⌜ ListsAll (lent (now (state .entry)) (now (nodes .entry)) (now (dots .entry)) (now (rects .entry)) (now (marks .entry))
+        (now (answer .entry))) (now (ids .entry))
+        (lent (now (state .exit)) (now (nodes .exit)) (now (dots .exit)) (now (rects .exit)) (now (marks .exit)) (now (answer .exit))) (now (ids .exit)) r ⌝ }
 {
     if !rows_fit(state, answer) {
         return 1;
@@ -60,7 +65,7 @@ pub extern "C" fn krakvinge_all(
     query_out(answer, done)
 }
 
-// Six numbers a leaf: centre x, centre y, half width, half height, depth, count; the answer is the number of leaves.
+// Six numbers a leaf (§9.2); the answer is the number of leaves.
 #[no_mangle]
 pub extern "C" fn krakvinge_leaves(
     state: &[u32],
@@ -71,7 +76,9 @@ pub extern "C" fn krakvinge_leaves(
     row: &mut [i32],
     answer: &mut [u32],
 ) -> u64
-    ensures { λ r. ⌜ ListsLeaves (lent (now (state .entry)) (now (nodes .entry)) (now (dots .entry)) (now (rects .entry)) (now (marks .entry)) (now (answer .entry))) (now (row .entry)) (lent (now (state .exit)) (now (nodes .exit)) (now (dots .exit)) (now (rects .exit)) (now (marks .exit)) (now (answer .exit))) (now (row .exit)) r ⌝ }
+    ensures { λ r. ⌜ ListsLeaves (lent (now (state .entry)) (now (nodes .entry)) (now (dots .entry)) (now (rects .entry)) (now (marks .entry))
+        (now (answer .entry))) (now (row .entry))
+        (lent (now (state .exit)) (now (nodes .exit)) (now (dots .exit)) (now (rects .exit)) (now (marks .exit)) (now (answer .exit))) (now (row .exit)) r ⌝ }
 {
     if !rows_fit(state, answer) {
         return 1;
@@ -91,7 +98,9 @@ pub extern "C" fn krakvinge_references(
     marks: &mut [u8],
     answer: &mut [u32],
 ) -> u64
-    ensures { λ r. ⌜ CountsDots (lent (now (state .entry)) (now (nodes .entry)) (now (dots .entry)) (now (rects .entry)) (now (marks .entry)) (now (answer .entry))) (lent (now (state .exit)) (now (nodes .exit)) (now (dots .exit)) (now (rects .exit)) (now (marks .exit)) (now (answer .exit))) r ⌝ }
+    ensures { λ r. ⌜ CountsDots (lent (now (state .entry)) (now (nodes .entry)) (now (dots .entry)) (now (rects .entry)) (now (marks .entry))
+        (now (answer .entry))) (lent (now (state .exit)) (now (nodes .exit)) (now (dots .exit)) (now (rects .exit)) (now (marks .exit))
+        (now (answer .exit))) r ⌝ }
 {
     if !rows_fit(state, answer) {
         return 1;

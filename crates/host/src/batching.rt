@@ -54,7 +54,9 @@ fn carry_out_all(
     records: &[u32],
     answers: &mut [u32],
 ) -> Batched
-    ensures { λ r. ⌜ Batch (world state (now (nodes .entry)) (now (dots .entry)) (now (rects .entry)) (now (marks .entry))) (recordsIn (now (records .entry))) (now (answers .entry)) (world (r .state) (now (nodes .exit)) (now (dots .exit)) (now (rects .exit)) (now (marks .exit))) (now (answers .exit)) (batchReply r) ⌝ }
+    ensures { λ r. ⌜ Batch (world state (now (nodes .entry)) (now (dots .entry)) (now (rects .entry)) (now (marks .entry)))
+        (recordsIn (now (records .entry))) (now (answers .entry))
+        (world (r .state) (now (nodes .exit)) (now (dots .exit)) (now (rects .exit)) (now (marks .exit))) (now (answers .exit)) (batchReply r) ⌝ }
 {
     let many = records.len() / 6;
     let mut batched = begin(many, answers.len(), state, nodes, dots, rects, marks);
@@ -79,7 +81,9 @@ pub extern "C" fn krakvinge_batch(
     records: &[u32],
     answers: &mut [u32],
 ) -> u64
-    ensures { λ r. ⌜ Batches (now (records .entry)) (lent (now (state .entry)) (now (nodes .entry)) (now (dots .entry)) (now (rects .entry)) (now (marks .entry)) []) (now (answers .entry)) (lent (now (state .exit)) (now (nodes .exit)) (now (dots .exit)) (now (rects .exit)) (now (marks .exit)) []) (now (answers .exit)) r ⌝ }
+    ensures { λ r. ⌜ Batches (now (records .entry))
+        (lent (now (state .entry)) (now (nodes .entry)) (now (dots .entry)) (now (rects .entry)) (now (marks .entry)) []) (now (answers .entry))
+        (lent (now (state .exit)) (now (nodes .exit)) (now (dots .exit)) (now (rects .exit)) (now (marks .exit)) []) (now (answers .exit)) r ⌝ }
 {
     if !batch_fits(state, records) {
         return 1;

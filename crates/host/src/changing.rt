@@ -24,7 +24,8 @@ pub extern "C" fn krakvinge_make(
     rects: &mut [i32],
     marks: &mut [u8],
 ) -> u64
-    ensures { λ r. ⌜ Makes (now (state .entry)) (now (nodes .entry)) (now (dots .entry)) (now (rects .entry)) (now (marks .entry)) (now (state .exit)) (now (nodes .exit)) (now (dots .exit)) (now (rects .exit)) (now (marks .exit)) r ⌝ }
+    ensures { λ r. ⌜ Makes (now (state .entry)) (now (nodes .entry)) (now (dots .entry)) (now (rects .entry)) (now (marks .entry)) (now (state .exit))
+        (now (nodes .exit)) (now (dots .exit)) (now (rects .exit)) (now (marks .exit)) r ⌝ }
 {
     if state.len() != 10 {
         return 1;
@@ -49,7 +50,9 @@ pub extern "C" fn krakvinge_insert(
     y2: i32,
     answer: &mut [u32],
 ) -> u64
-    ensures { λ r. ⌜ Inserts id (rectOf x1 y1 x2 y2) (lent (now (state .entry)) (now (nodes .entry)) (now (dots .entry)) (now (rects .entry)) (now (marks .entry)) (now (answer .entry))) (lent (now (state .exit)) (now (nodes .exit)) (now (dots .exit)) (now (rects .exit)) (now (marks .exit)) (now (answer .exit))) r ⌝ }
+    ensures { λ r. ⌜ Inserts id (rectOf x1 y1 x2 y2)
+        (lent (now (state .entry)) (now (nodes .entry)) (now (dots .entry)) (now (rects .entry)) (now (marks .entry)) (now (answer .entry)))
+        (lent (now (state .exit)) (now (nodes .exit)) (now (dots .exit)) (now (rects .exit)) (now (marks .exit)) (now (answer .exit))) r ⌝ }
 {
     if !rows_fit(state, answer) {
         return 1;
@@ -75,7 +78,9 @@ pub extern "C" fn krakvinge_remove(
     y2: i32,
     answer: &mut [u32],
 ) -> u64
-    ensures { λ r. ⌜ Removes id (rectOf x1 y1 x2 y2) (lent (now (state .entry)) (now (nodes .entry)) (now (dots .entry)) (now (rects .entry)) (now (marks .entry)) (now (answer .entry))) (lent (now (state .exit)) (now (nodes .exit)) (now (dots .exit)) (now (rects .exit)) (now (marks .exit)) (now (answer .exit))) r ⌝ }
+    ensures { λ r. ⌜ Removes id (rectOf x1 y1 x2 y2)
+        (lent (now (state .entry)) (now (nodes .entry)) (now (dots .entry)) (now (rects .entry)) (now (marks .entry)) (now (answer .entry)))
+        (lent (now (state .exit)) (now (nodes .exit)) (now (dots .exit)) (now (rects .exit)) (now (marks .exit)) (now (answer .exit))) r ⌝ }
 {
     if !rows_fit(state, answer) {
         return 1;
@@ -96,7 +101,9 @@ pub extern "C" fn krakvinge_cleanup(
     marks: &mut [u8],
     answer: &mut [u32],
 ) -> u64
-    ensures { λ r. ⌜ CleansUp (lent (now (state .entry)) (now (nodes .entry)) (now (dots .entry)) (now (rects .entry)) (now (marks .entry)) (now (answer .entry))) (lent (now (state .exit)) (now (nodes .exit)) (now (dots .exit)) (now (rects .exit)) (now (marks .exit)) (now (answer .exit))) r ⌝ }
+    ensures { λ r. ⌜ CleansUp (lent (now (state .entry)) (now (nodes .entry)) (now (dots .entry)) (now (rects .entry)) (now (marks .entry))
+        (now (answer .entry))) (lent (now (state .exit)) (now (nodes .exit)) (now (dots .exit)) (now (rects .exit)) (now (marks .exit))
+        (now (answer .exit))) r ⌝ }
 {
     if !rows_fit(state, answer) {
         return 1;

@@ -124,7 +124,8 @@ pub struct Three {
 
 pub fn read_three(line: &[u8], at: usize) -> Three
     requires { ⌜ at ≤ length (now line) ⌝ }
-    ensures { λ r. ⌜ ReadsAt three (now (line .entry)) at (r .ok) (pos (r .«depth_limit») ∷ pos (r .«leaf_limit») ∷ pos (r .«smallest_cell») ∷ []) (r .next) ⌝ }
+    ensures { λ r. ⌜ ReadsAt three (now (line .entry)) at (r .ok)
+        (pos (r .«depth_limit») ∷ pos (r .«leaf_limit») ∷ pos (r .«smallest_cell») ∷ []) (r .next) ⌝ }
 {
     let a = read_natural(line, at);
     let b = read_natural(line, a.next);

@@ -1,4 +1,4 @@
-// The fresh tree: the root an empty leaf, all groups and places free, chained upward from 0.
+// The fresh tree (§2.11): an empty root, and free lists of all groups and all places in rising order.
 ghost use mathlib.Core.Path.{_≡_};
 ghost use mathlib.Core.Bool.{true, cond};
 ghost use Prim.Native.Nat.{_+_, _*_, _/_, _≤_, _<_};
@@ -105,7 +105,8 @@ pub fn make_fresh(
     marks: &mut [u8],
 ) -> State
     requires { ⌜ (lengthsFit (length (now nodes)) (length (now dots)) (length (now rects)) (length (now marks)) ≡ true) × (inRange settings ≡ true) ⌝ }
-    ensures { λ r. ⌜ world r (now (nodes .exit)) (now (dots .exit)) (now (rects .exit)) (now (marks .exit)) ≡ layout (fresh settings (length (now (nodes .entry)) / 10) (length (now (dots .entry)) / 2)) ⌝ }
+    ensures { λ r. ⌜ world r (now (nodes .exit)) (now (dots .exit)) (now (rects .exit)) (now (marks .exit)) ≡ layout
+        (fresh settings (length (now (nodes .entry)) / 10) (length (now (dots .entry)) / 2)) ⌝ }
 {
     let groups = nodes.len() / 10;
     let places = dots.len() / 2;

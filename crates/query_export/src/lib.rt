@@ -24,7 +24,8 @@ pub extern "C" fn krakvinge_query_unchecked(
     answer: &mut [u32],
 ) -> u64
     requires { ⌜ (length (now state) ≡ 10) × (length (now answer) ≡ 2) × IsTree (stateIn (now state)) (now nodes) (now dots) (now rects) ⌝ }
-    ensures { λ r. ⌜ Lists (rectOf x1 y1 x2 y2) (now (state .entry)) (now (nodes .entry)) (now (dots .entry)) (now (rects .entry)) (now (ids .entry)) (now (answer .entry)) (now (ids .exit)) (now (answer .exit)) r ⌝ }
+    ensures { λ r. ⌜ Lists (rectOf x1 y1 x2 y2) (now (state .entry)) (now (nodes .entry)) (now (dots .entry)) (now (rects .entry)) (now (ids .entry))
+        (now (answer .entry)) (now (ids .exit)) (now (answer .exit)) r ⌝ }
 {
     let before = state_in(state);
     let rect = AABB { x1, y1, x2, y2 };

@@ -31,7 +31,9 @@ pub fn answer_settings(
 ) -> Start
     requires { ⌜ 24 ≤ length (now out) ⌝ }
     ensures { λ r. ⌜ endOf r ≤ length (now (out .exit)) ⌝ }
-    ensures { λ r. ⌜ ((before : State) → MakeLine (world before (now (nodes .entry)) (now (dots .entry)) (now (rects .entry)) (now (marks .entry))) settings r (world (afterStart before r) (now (nodes .exit)) (now (dots .exit)) (now (rects .exit)) (now (marks .exit))) (take (endOf r) (now (out .exit)))) ⌝ }
+    ensures { λ r. ⌜ ((before : State) → MakeLine (world before (now (nodes .entry)) (now (dots .entry)) (now (rects .entry)) (now (marks .entry)))
+        settings r (world (afterStart before r) (now (nodes .exit)) (now (dots .exit)) (now (rects .exit)) (now (marks .exit)))
+        (take (endOf r) (now (out .exit)))) ⌝ }
 {
     match make(settings, nodes, dots, rects, marks) {
         MakeAnswer::Refused(number) => Start::Ended(answer_one(out, b'E', number)),
@@ -58,7 +60,9 @@ pub fn answer_first(
 ) -> Start
     requires { ⌜ 24 ≤ length (now out) ⌝ }
     ensures { λ r. ⌜ endOf r ≤ length (now (out .exit)) ⌝ }
-    ensures { λ r. ⌜ ((before : State) → Started (world before (now (nodes .entry)) (now (dots .entry)) (now (rects .entry)) (now (marks .entry))) (now (line .entry)) r (world (afterStart before r) (now (nodes .exit)) (now (dots .exit)) (now (rects .exit)) (now (marks .exit))) (take (endOf r) (now (out .exit)))) ⌝ }
+    ensures { λ r. ⌜ ((before : State) → Started (world before (now (nodes .entry)) (now (dots .entry)) (now (rects .entry)) (now (marks .entry)))
+        (now (line .entry)) r (world (afterStart before r) (now (nodes .exit)) (now (dots .exit)) (now (rects .exit)) (now (marks .exit)))
+        (take (endOf r) (now (out .exit)))) ⌝ }
 {
     let Line::Call(call) = read_line(line) else {
         return end_nine(out);

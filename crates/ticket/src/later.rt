@@ -39,7 +39,8 @@ pub fn answer_insert(
 ) -> Step
     requires { ⌜ 24 ≤ length (now out) ⌝ }
     ensures { λ r. ⌜ r .next ≤ length (now (out .exit)) ⌝ }
-    ensures { λ r. ⌜ InsertLine (world state (now (nodes .entry)) (now (dots .entry)) (now (rects .entry)) (now (marks .entry))) dot (world (r .state) (now (nodes .exit)) (now (dots .exit)) (now (rects .exit)) (now (marks .exit))) (take (r .next) (now (out .exit))) ⌝ }
+    ensures { λ r. ⌜ InsertLine (world state (now (nodes .entry)) (now (dots .entry)) (now (rects .entry)) (now (marks .entry))) dot
+        (world (r .state) (now (nodes .exit)) (now (dots .exit)) (now (rects .exit)) (now (marks .exit))) (take (r .next) (now (out .exit))) ⌝ }
 {
     match insert(state, nodes, dots, rects, marks, dot) {
         InsertAnswer::Refused(number) => {
@@ -64,7 +65,8 @@ pub fn answer_remove(
 ) -> Step
     requires { ⌜ 24 ≤ length (now out) ⌝ }
     ensures { λ r. ⌜ r .next ≤ length (now (out .exit)) ⌝ }
-    ensures { λ r. ⌜ RemoveLine (world state (now (nodes .entry)) (now (dots .entry)) (now (rects .entry)) (now (marks .entry))) dot (world (r .state) (now (nodes .exit)) (now (dots .exit)) (now (rects .exit)) (now (marks .exit))) (take (r .next) (now (out .exit))) ⌝ }
+    ensures { λ r. ⌜ RemoveLine (world state (now (nodes .entry)) (now (dots .entry)) (now (rects .entry)) (now (marks .entry))) dot
+        (world (r .state) (now (nodes .exit)) (now (dots .exit)) (now (rects .exit)) (now (marks .exit))) (take (r .next) (now (out .exit))) ⌝ }
 {
     let rect = dot.rect;
     match remove(state, nodes, dots, rects, marks, dot.id, rect) {
@@ -93,7 +95,8 @@ pub fn answer_cleanup(
 ) -> Step
     requires { ⌜ 24 ≤ length (now out) ⌝ }
     ensures { λ r. ⌜ r .next ≤ length (now (out .exit)) ⌝ }
-    ensures { λ r. ⌜ CleanupLine (world state (now (nodes .entry)) (now (dots .entry)) (now (rects .entry)) (now (marks .entry))) (world (r .state) (now (nodes .exit)) (now (dots .exit)) (now (rects .exit)) (now (marks .exit))) (take (r .next) (now (out .exit))) ⌝ }
+    ensures { λ r. ⌜ CleanupLine (world state (now (nodes .entry)) (now (dots .entry)) (now (rects .entry)) (now (marks .entry)))
+        (world (r .state) (now (nodes .exit)) (now (dots .exit)) (now (rects .exit)) (now (marks .exit))) (take (r .next) (now (out .exit))) ⌝ }
 {
     match cleanup(state, nodes, dots, rects, marks) {
         CleanupAnswer::Refused(number) => {
@@ -119,7 +122,9 @@ pub fn answer_listing(
 ) -> Step
     requires { ⌜ 24 + 11 * length (now row) ≤ length (now out) ⌝ }
     ensures { λ r. ⌜ r .next ≤ length (now (out .exit)) ⌝ }
-    ensures { λ r. ⌜ QueryLine (world state (now (nodes .entry)) (now (dots .entry)) (now (rects .entry)) (now (marks .entry))) rect (now (row .entry)) (world (r .state) (now (nodes .exit)) (now (dots .exit)) (now (rects .exit)) (now (marks .exit))) (now (row .exit)) (take (r .next) (now (out .exit))) ⌝ }
+    ensures { λ r. ⌜ QueryLine (world state (now (nodes .entry)) (now (dots .entry)) (now (rects .entry)) (now (marks .entry))) rect
+        (now (row .entry)) (world (r .state) (now (nodes .exit)) (now (dots .exit)) (now (rects .exit)) (now (marks .exit))) (now (row .exit))
+        (take (r .next) (now (out .exit))) ⌝ }
 {
     match query(state, nodes, dots, rects, marks, rect, row) {
         QueryAnswer::Refused(number) => {
@@ -159,7 +164,9 @@ pub fn answer_call(
 ) -> Step
     requires { ⌜ 24 + 11 * length (now row) ≤ length (now out) ⌝ }
     ensures { λ r. ⌜ r .next ≤ length (now (out .exit)) ⌝ }
-    ensures { λ r. ⌜ Called (world state (now (nodes .entry)) (now (dots .entry)) (now (rects .entry)) (now (marks .entry))) (now (row .entry)) call (world (r .state) (now (nodes .exit)) (now (dots .exit)) (now (rects .exit)) (now (marks .exit))) (now (row .exit)) (take (r .next) (now (out .exit))) ⌝ }
+    ensures { λ r. ⌜ Called (world state (now (nodes .entry)) (now (dots .entry)) (now (rects .entry)) (now (marks .entry))) (now (row .entry)) call
+        (world (r .state) (now (nodes .exit)) (now (dots .exit)) (now (rects .exit)) (now (marks .exit))) (now (row .exit))
+        (take (r .next) (now (out .exit))) ⌝ }
 {
     match call {
         Call::Settings(_) => answer_nine(state, out),
@@ -183,7 +190,9 @@ pub fn answer_line(
 ) -> Step
     requires { ⌜ 24 + 11 * length (now row) ≤ length (now out) ⌝ }
     ensures { λ r. ⌜ r .next ≤ length (now (out .exit)) ⌝ }
-    ensures { λ r. ⌜ Answered (world state (now (nodes .entry)) (now (dots .entry)) (now (rects .entry)) (now (marks .entry))) (now (row .entry)) (now (line .entry)) (world (r .state) (now (nodes .exit)) (now (dots .exit)) (now (rects .exit)) (now (marks .exit))) (now (row .exit)) (take (r .next) (now (out .exit))) ⌝ }
+    ensures { λ r. ⌜ Answered (world state (now (nodes .entry)) (now (dots .entry)) (now (rects .entry)) (now (marks .entry))) (now (row .entry))
+        (now (line .entry)) (world (r .state) (now (nodes .exit)) (now (dots .exit)) (now (rects .exit)) (now (marks .exit))) (now (row .exit))
+        (take (r .next) (now (out .exit))) ⌝ }
 {
     match read_line(line) {
         Line::Call(call) => answer_call(state, nodes, dots, rects, marks, call, row, out),

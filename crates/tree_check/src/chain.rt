@@ -6,7 +6,8 @@ use memory::node::Node;
 use memory::places::dot_at;
 use memory::places::next_at;
 
-// Whether as many dots as the chain counts, each of which passes the gate, are chained from its first, at places of which none was marked; marks those that it meets.
+// Whether as many dots as the chain counts, each of which passes the gate, are chained from its first, at places of which none was marked.
+// Marks those that it meets.
 pub fn check_chain(
     dots: &[u32],
     rects: &[i32],
@@ -16,7 +17,8 @@ pub fn check_chain(
     chain: Node,
 ) -> bool
     requires { ⌜ ChainReady (now dots) (now rects) (now marks) places ⌝ }
-    ensures { λ r. ⌜ ChainScanned (passes gate) (placeMemory (now (dots .entry)) (now (rects .entry))) (now (marks .entry)) places (chain .first) (chain .count) (now (marks .exit)) r ⌝ }
+    ensures { λ r. ⌜ ChainScanned (passes gate) (placeMemory (now (dots .entry)) (now (rects .entry))) (now (marks .entry)) places (chain .first)
+        (chain .count) (now (marks .exit)) r ⌝ }
 {
     let mut link = chain.first;
     let mut left = chain.count;

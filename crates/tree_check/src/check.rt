@@ -3,7 +3,7 @@ ghost use mathlib.Core.Path.{_≡_};
 ghost use Prim.Native.Nat.{_/_};
 ghost use lib.ListN.{length};
 ghost use Rattle.model.specs.Layout.{world};
-ghost use Rattle.tree_check.specs.Checks.{CheckReady, Told, answerOf, Checked};
+ghost use Rattle.tree_check.specs.Checks.{CheckReady, Decided, answerOf, Checked};
 use crate::chain::check_chain;
 use crate::free::check_free;
 use crate::marks::all_marked;
@@ -18,7 +18,7 @@ use model::State;
 // Whether the memory, whose marks are 0, is a tree; leaves marks behind.
 fn is_tree(state: State, nodes: &[u32], dots: &[u32], rects: &[i32], marks: &mut [u8]) -> bool
     requires { ⌜ CheckReady state (now nodes) (now dots) (now rects) (now marks) (length (now dots) / 2) (length (now nodes) / 10) ⌝ }
-    ensures { λ r. ⌜ Told (world state (now (nodes .entry)) (now (dots .entry)) (now (rects .entry)) (now (marks .entry))) r ⌝ }
+    ensures { λ r. ⌜ Decided (world state (now (nodes .entry)) (now (dots .entry)) (now (rects .entry)) (now (marks .entry))) r ⌝ }
 {
     let places = dots.len() / 2;
     let groups = nodes.len() / 10;
@@ -51,7 +51,7 @@ fn answer(tree: bool) -> u32
     if tree { 0 } else { 3 }
 }
 
-// Refusals 1 to 3 of every call, in this order, or 0: 1 a length isn't of the stated form, 2 settings outside their ranges, 3 the memory isn't a tree.
+// Refusals 1 to 3 of every call, in this order (§11.3), or 0.
 // Writes the marks alone: 0 everywhere, but for 1 and 2, which leave them as they were.
 pub fn check(state: State, nodes: &[u32], dots: &[u32], rects: &[i32], marks: &mut [u8]) -> u32
     ensures { λ r. ⌜ Checked state (now (nodes .entry)) (now (dots .entry)) (now (rects .entry)) (now (marks .entry)) (now (marks .exit)) r ⌝ }

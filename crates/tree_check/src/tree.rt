@@ -1,4 +1,4 @@
-// The tree below a node: a node's walk hands its group on, and the group's walk hands each child back.
+// The tree below a node: the walk of a node calls that of its group, which calls that of each child.
 ghost use Prim.Native.Nat.{_*_, _≤_};
 ghost use Rattle.model.specs.Memory.{read};
 ghost use Rattle.tree_check.specs.Trees.{TreeReady, TreeScanned, GroupReady, GroupScanned, Sound};
@@ -21,7 +21,8 @@ pub fn check_node(
     node: usize,
 ) -> bool
     requires { ⌜ TreeReady (now nodes) (now dots) (now rects) (now marks) places groups × Sound region × (node ≤ 5 * groups) ⌝ }
-    ensures { λ r. ⌜ TreeScanned region (read (now (nodes .entry)) (now (dots .entry)) (now (rects .entry))) (now (marks .entry)) places groups node (now (marks .exit)) r ⌝ }
+    ensures { λ r. ⌜ TreeScanned region (read (now (nodes .entry)) (now (dots .entry)) (now (rects .entry))) (now (marks .entry)) places groups node
+        (now (marks .exit)) r ⌝ }
 {
     let words = node_at(nodes, node);
     let splits = region.may_split();
@@ -59,7 +60,8 @@ fn check_group(
     group: usize,
 ) -> bool
     requires { ⌜ TreeReady (now nodes) (now dots) (now rects) (now marks) places groups × GroupReady region groups group 5 ⌝ }
-    ensures { λ r. ⌜ GroupScanned region (read (now (nodes .entry)) (now (dots .entry)) (now (rects .entry))) (now (marks .entry)) places groups group 5 (now (marks .exit)) r ⌝ }
+    ensures { λ r. ⌜ GroupScanned region (read (now (nodes .entry)) (now (dots .entry)) (now (rects .entry))) (now (marks .entry)) places groups group
+        5 (now (marks .exit)) r ⌝ }
 {
     let mut left = 5u32;
     while left > 0 {

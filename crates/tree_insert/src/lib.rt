@@ -37,7 +37,9 @@ fn push_dot(
     dot: Dot,
 )
     requires { ⌜ CanPush (now nodes) (now dots) (now rects) node place ⌝ }
-    ensures { λ _. ⌜ (now (nodes .exit) ≡ pushedNodes (now (nodes .entry)) node place) × (now (dots .exit) ≡ pushedDots (now (nodes .entry)) (now (dots .entry)) node place dot) × (now (rects .exit) ≡ pushedRects (now (rects .entry)) place dot) ⌝ }
+    ensures { λ _. ⌜ (now (nodes .exit) ≡ pushedNodes (now (nodes .entry)) node place)
+        × (now (dots .exit) ≡ pushedDots (now (nodes .entry)) (now (dots .entry)) node place dot)
+        × (now (rects .exit) ≡ pushedRects (now (rects .entry)) place dot) ⌝ }
 {
     set_dot(dots, rects, place as usize, dot);
     push_place(nodes, dots, node, place);
@@ -54,7 +56,9 @@ fn insert_at(
     splits: u32,
 ) -> State
     requires { ⌜ CanInsert state dot (now nodes) (now dots) (now rects) leaf splits ⌝ }
-    ensures { λ r. ⌜ ((marks : List ℕ) (x : Shape) → Starts state dot (now (nodes .entry)) (now (dots .entry)) (now (rects .entry)) leaf splits marks x → Holds (world r (now (nodes .exit)) (now (dots .exit)) (now (rects .exit)) (replicate (length marks) 0)) (inserted dot x)) ⌝ }
+    ensures { λ r. ⌜ ((marks : List ℕ) (x : Shape)
+        → Starts state dot (now (nodes .entry)) (now (dots .entry)) (now (rects .entry)) leaf splits marks x
+        → Holds (world r (now (nodes .exit)) (now (dots .exit)) (now (rects .exit)) (replicate (length marks) 0)) (inserted dot x)) ⌝ }
 {
     let place = state.free_place;
     let reached = split_down(nodes, dots, rects, leaf, state.free_group, splits, dot.rect);
@@ -72,7 +76,8 @@ pub fn insert_dot(
     dot: Dot,
 ) -> InsertAnswer
     requires { ⌜ IsTree state (now nodes) (now dots) (now rects) ⌝ }
-    ensures { λ r. ⌜ CarriedOut (insertRule dot) state (now (nodes .entry)) (now (dots .entry)) (now (rects .entry)) (insertState state r) (now (nodes .exit)) (now (dots .exit)) (now (rects .exit)) (insertReply r) ⌝ }
+    ensures { λ r. ⌜ CarriedOut (insertRule dot) state (now (nodes .entry)) (now (dots .entry)) (now (rects .entry)) (insertState state r)
+        (now (nodes .exit)) (now (dots .exit)) (now (rects .exit)) (insertReply r) ⌝ }
 {
     let settings = state.settings;
     let rect = dot.rect;

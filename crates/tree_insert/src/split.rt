@@ -21,7 +21,9 @@ use tree::find::Leaf;
 // Puts a place at the head of a leaf's chain.
 pub fn push_place(nodes: &mut [u32], dots: &mut [u32], node: usize, place: u32)
     requires { ⌜ HasNode (now nodes) node × HasPlace (now dots) place × (countAt (now nodes) node < 4294967295) ⌝ }
-    ensures { λ _. ⌜ (now (nodes .exit) ≡ setNodeAt (now (nodes .entry)) node (record { first = place; count = countAt (now (nodes .entry)) node + 1 })) × (now (dots .exit) ≡ setNextAt (now (dots .entry)) place (firstAt (now (nodes .entry)) node)) ⌝ }
+    ensures { λ _. ⌜ (now (nodes .exit) ≡ setNodeAt (now (nodes .entry)) node
+        (record { first = place; count = countAt (now (nodes .entry)) node + 1 }))
+        × (now (dots .exit) ≡ setNextAt (now (dots .entry)) place (firstAt (now (nodes .entry)) node)) ⌝ }
 {
     let leaf = node_at(nodes, node);
     set_next(dots, place as usize, leaf.first);
@@ -38,7 +40,8 @@ pub fn push_place(nodes: &mut [u32], dots: &mut [u32], node: usize, place: u32)
 // Makes a leaf a branch on the group at the head of the free groups, whose first node becomes an empty leaf; the next head.
 fn take_group(nodes: &mut [u32], node: usize, group: u32) -> u32
     requires { ⌜ HasNode (now nodes) node × HasNode (now nodes) group ⌝ }
-    ensures { λ r. ⌜ (r ≡ firstAt (now (nodes .entry)) group) × (now (nodes .exit) ≡ setNodeAt (setNodeAt (now (nodes .entry)) node (record { first = group; count = branchMark })) group emptyLeaf) ⌝ }
+    ensures { λ r. ⌜ (r ≡ firstAt (now (nodes .entry)) group)
+        × (now (nodes .exit) ≡ setNodeAt (setNodeAt (now (nodes .entry)) node (record { first = group; count = branchMark })) group emptyLeaf) ⌝ }
 {
     let next = node_at(nodes, group as usize).first;
     set_node(
@@ -53,7 +56,7 @@ fn take_group(nodes: &mut [u32], node: usize, group: u32) -> u32
     next
 }
 
-// Deals a chain to the five leaves of a group, head first, each dot to the head of its child's chain.
+// Deals a chain to the five leaves of a group (§5.2): from its head on, each dot becomes the head of its child's chain.
 fn deal_chain(
     nodes: &mut [u32],
     dots: &mut [u32],
@@ -63,7 +66,8 @@ fn deal_chain(
     group: u32,
 )
     requires { ⌜ Dealable (now nodes) (now dots) (now rects) group (chain .first) (chain .count) ⌝ }
-    ensures { λ _. ⌜ Dealt (now (nodes .entry)) (now (dots .entry)) (now (rects .entry)) cell group (chain .first) (chain .count) (now (nodes .exit)) (now (dots .exit)) ⌝ }
+    ensures { λ _. ⌜ Dealt (now (nodes .entry)) (now (dots .entry)) (now (rects .entry)) cell group (chain .first) (chain .count) (now (nodes .exit))
+        (now (dots .exit)) ⌝ }
 {
     let first = group as usize;
     let mut at = chain.first;
@@ -113,7 +117,8 @@ pub fn split_down(
     rect: AABB,
 ) -> Reached
     requires { ⌜ CanSplitDown rect (now nodes) (now dots) (now rects) group leaf splits ⌝ }
-    ensures { λ r. ⌜ SplitsDone rect (now (nodes .entry)) (now (dots .entry)) (now (rects .entry)) group leaf splits (now (nodes .exit)) (now (dots .exit)) r ⌝ }
+    ensures { λ r. ⌜ SplitsDone rect (now (nodes .entry)) (now (dots .entry)) (now (rects .entry)) group leaf splits (now (nodes .exit))
+        (now (dots .exit)) r ⌝ }
 {
     let mut node = leaf.node;
     let mut node_data = leaf.node_data;

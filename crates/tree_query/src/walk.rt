@@ -51,7 +51,8 @@ fn walk_chain(
     room: usize,
 ) -> Found
     requires { ⌜ ChainWalk (now dots) (now rects) room (now row) found (leaf .first) (leaf .count) ⌝ }
-    ensures { λ r. ⌜ ChainWalked query (now (dots .entry)) (now (rects .entry)) room (now (row .entry)) found (leaf .first) (leaf .count) (now (row .exit)) r ⌝ }
+    ensures { λ r. ⌜ ChainWalked query (now (dots .entry)) (now (rects .entry)) room (now (row .entry)) found (leaf .first) (leaf .count)
+        (now (row .exit)) r ⌝ }
 {
     let opened = found.opened;
     let mut hits = found.hits;
@@ -80,7 +81,8 @@ pub fn walk_node(
     room: usize,
 ) -> Found
     requires { ⌜ NodeWalk cell (now nodes) (now dots) (now rects) room (now row) found node levels ⌝ }
-    ensures { λ r. ⌜ NodeWalked query cell (now (nodes .entry)) (now (dots .entry)) (now (rects .entry)) room (now (row .entry)) found node levels (now (row .exit)) r ⌝ }
+    ensures { λ r. ⌜ NodeWalked query cell (now (nodes .entry)) (now (dots .entry)) (now (rects .entry)) room (now (row .entry)) found node levels
+        (now (row .exit)) r ⌝ }
 {
     let words = node_at(nodes, node);
     let opened = Found {
@@ -122,7 +124,8 @@ fn walk_group(
     room: usize,
 ) -> Found
     requires { ⌜ GroupWalk query cell quadrants (now nodes) (now dots) (now rects) room (now row) found first levels 5 ⌝ }
-    ensures { λ r. ⌜ GroupWalked query cell (now (nodes .entry)) (now (dots .entry)) (now (rects .entry)) room (now (row .entry)) found first levels 5 (now (row .exit)) r ⌝ }
+    ensures { λ r. ⌜ GroupWalked query cell (now (nodes .entry)) (now (dots .entry)) (now (rects .entry)) room (now (row .entry)) found first levels 5
+        (now (row .exit)) r ⌝ }
 {
     let mut met = found;
     let mut left = 5u32;

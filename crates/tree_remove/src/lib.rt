@@ -60,8 +60,10 @@ fn find_dot(dots: &[u32], leaf: Node, id: u32) -> Hit
 
 // Takes the dot that was found out of its leaf's chain.
 fn unlink(nodes: &mut [u32], dots: &mut [u32], node: usize, leaf: Node, hit: Hit)
-    requires { ⌜ HasNode (now nodes) node × (1 ≤ leaf .count) × HasPlace (now dots) (hit .place) × (¬ (hit .previous ≡ none) → HasPlace (now dots) (hit .previous)) ⌝ }
-    ensures { λ _. ⌜ (now (nodes .exit) ≡ setNodeAt (now (nodes .entry)) node (unlinkedNode (now (dots .entry)) leaf hit)) × (now (dots .exit) ≡ unlinkedDots (now (dots .entry)) hit) ⌝ }
+    requires { ⌜ HasNode (now nodes) node × (1 ≤ leaf .count) × HasPlace (now dots) (hit .place)
+        × (¬ (hit .previous ≡ none) → HasPlace (now dots) (hit .previous)) ⌝ }
+    ensures { λ _. ⌜ (now (nodes .exit) ≡ setNodeAt (now (nodes .entry)) node (unlinkedNode (now (dots .entry)) leaf hit))
+        × (now (dots .exit) ≡ unlinkedDots (now (dots .entry)) hit) ⌝ }
 {
     let place = hit.place as usize;
     let next = next_at(dots, place);
@@ -85,7 +87,8 @@ fn unlink(nodes: &mut [u32], dots: &mut [u32], node: usize, leaf: Node, hit: Hit
 // Frees a place: it heads the free places.
 fn free_place(dots: &mut [u32], rects: &mut [i32], place: usize, head: u32)
     requires { ⌜ HasPlace (now dots) place × HasRect (now rects) place ⌝ }
-    ensures { λ _. ⌜ (now (dots .exit) ≡ setNextAt (setIdAt (now (dots .entry)) place (zeroDot .id)) place head) × (now (rects .exit) ≡ setRectAt (now (rects .entry)) place (zeroDot .rect)) ⌝ }
+    ensures { λ _. ⌜ (now (dots .exit) ≡ setNextAt (setIdAt (now (dots .entry)) place (zeroDot .id)) place head)
+        × (now (rects .exit) ≡ setRectAt (now (rects .entry)) place (zeroDot .rect)) ⌝ }
 {
     let rect = AABB {
         x1: 0,
@@ -107,7 +110,8 @@ pub fn remove_dot(
     rect: AABB,
 ) -> RemoveAnswer
     requires { ⌜ IsTree state (now nodes) (now dots) (now rects) ⌝ }
-    ensures { λ r. ⌜ CarriedOut (removeRule id rect) state (now (nodes .entry)) (now (dots .entry)) (now (rects .entry)) (removeState state r) (now (nodes .exit)) (now (dots .exit)) (now (rects .exit)) (removeReply r) ⌝ }
+    ensures { λ r. ⌜ CarriedOut (removeRule id rect) state (now (nodes .entry)) (now (dots .entry)) (now (rects .entry)) (removeState state r)
+        (now (nodes .exit)) (now (dots .exit)) (now (rects .exit)) (removeReply r) ⌝ }
 {
     let settings = state.settings;
     let node = find_leaf(settings, nodes, rect).node;

@@ -92,12 +92,12 @@ module _ (q : AABB) where
             (λ i b. byBool (opens q n i) (λ e. rw e (nodes-in-tree k (childData n i) (childNode g i) (f i))) (λ e. rw e (omega arith))),
       )
 
-pub record Counts (q : AABB) (x : Shape) (nodes : List ℕ) : Type 0 where
+pub record CountsOpened (q : AABB) (x : Shape) (nodes : List ℕ) : Type 0 where
   pub many : opensFor q x ≡ length nodes
   pub once : (k : ℕ) → count k nodes ≤ 1
   pub just : (k : ℕ) → (1 ≤ count k nodes) ↔ Opened q (root x) 0 (x .tree) k
 
-pub opened-nodes : (q : AABB) (x : Shape) → Valid x → Counts q x (openedNodes q (root x) 0 (x .tree))
+pub opened-nodes : (q : AABB) (x : Shape) → Valid x → CountsOpened q x (openedNodes q (root x) 0 (x .tree))
 unfolding opensFor
 opened-nodes q x v =
     let nodes = openedNodes q (root x) 0 (x .tree) in

@@ -41,15 +41,15 @@ one-chain m h (d ∷ ds) (e ∷ es) l s r =
     λ i. one i ∷ rest i
 
 -- What its words tell a tree by: no leaf has a branch's count, and no branch a child beyond 4.
-abbrev pub Told : Tree → Type 0
-Told (leaf c) = length c < branchMark
-Told (branch g f) = ((i : ℕ) → i < 5 → Told (f i)) × ((i : ℕ) → 5 ≤ i → f i ≡ leaf [])
+abbrev pub Legible : Tree → Type 0
+Legible (leaf c) = length c < branchMark
+Legible (branch g f) = ((i : ℕ) → i < 5 → Legible (f i)) × ((i : ℕ) → 5 ≤ i → f i ≡ leaf [])
 
-well-told : (s : _) (n : _) (t : Tree) → WellFormed s n t → size t < branchMark → Told t
-well-told s n (leaf c) v b = omega (arith, sumOver-one c)
-well-told s n (branch g f) v b = ((λ i c. well-told s _ (f i) (v .1 i c .1) (omega (arith, sumBelow-term 5 (λ j. size (f j)) i c))), v .2)
+well-legible : (s : _) (n : _) (t : Tree) → WellFormed s n t → size t < branchMark → Legible t
+well-legible s n (leaf c) v b = omega (arith, sumOver-one c)
+well-legible s n (branch g f) v b = ((λ i c. well-legible s _ (f i) (v .1 i c .1) (omega (arith, sumBelow-term 5 (λ j. size (f j)) i c))), v .2)
 
-pub one-tree : (m : Mem) (a : ℕ) (t u : Tree) → Told t → Told u → Represents m a t → Represents m a u → t ≡ u
+pub one-tree : (m : Mem) (a : ℕ) (t u : Tree) → Legible t → Legible u → Represents m a t → Represents m a u → t ≡ u
 one-tree m a (leaf c) (leaf e) p q r s = ap leaf (one-chain m (m .first a) c e (sym (r .0) ∙ s .0) (r .1) (s .1))
 one-tree m a (leaf c) (branch g f) p q r s = absurd (omega (arith, r .0, s .0))
 one-tree m a (branch g f) (leaf e) p q r s = absurd (omega (arith, r .0, s .0))
@@ -100,7 +100,7 @@ holds-one w x y hx hy =
     let groups : x .groups ≡ y .groups = omega (arith, r .nodes, s .nodes) in
     let places : x .places ≡ y .places = omega (arith, r .dots, s .dots) in
     let settings : x .settings ≡ y .settings = sym (r .settings) ∙ s .settings in
-    let told : (z : Shape) → Valid z → Told (z .tree) = λ z v. well-told _ _ (z .tree) (v .wellFormed) (size-small z v) in
+    let told : (z : Shape) → Valid z → Legible (z .tree) = λ z v. well-legible _ _ (z .tree) (v .wellFormed) (size-small z v) in
     let tree = one-tree m 0 (x .tree) (y .tree) (told x vx) (told y vy) (r .tree) (s .tree) in
     let freeGroups = one-free m (w .state .«free_group») (x .freeGroups) (y .freeGroups) (free-range x vx) (free-range y vy) (r .groups) (s .groups) in
     let equal : length (map blank (x .freePlaces)) ≡ length (map blank (y .freePlaces)) =

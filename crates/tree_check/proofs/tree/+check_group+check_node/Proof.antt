@@ -1,4 +1,4 @@
--- The node's walk hands its group on, and the group's walk hands each child back. Each way is a law of Laws.Trees and Laws.Groups.
+-- The walk of a node calls that of its group, which calls that of each child. Each way is a law of Laws.Trees and Laws.Groups.
 -- The measure of a node is twice the levels that are left below it; of a group, one more than that of its children.
 -- The loop's invariant: what is left to check leads to the whole (`Ahead`). The children that are left fall.
 use Prim.Native.Nat.{ℕ, _<_, _≤_, _+_, _-_, _*_}
