@@ -1,7 +1,7 @@
 /* Krakvinge for a C host: the proved calls on lent rows. Link target/staticlib/libhost.a (rt staticlib host).
  *
  * Each row is a pointer and its length in words. The lengths, for G groups (0 to 16384) and N places (0 to 65536):
- *     state    10 words: left, top, width, height, depth limit, leaf limit, smallest cell, free group, free place, live;
+ *     state    10 words: the root's left, top, width and height; the two limits (depth, leaf) and the smallest cell; free group, free place, live;
  *              a negative number has 4294967296 added
  *     nodes    2 + 10 G words        dots    2 N words        rects   4 N words        marks   N + G bytes
  *     answer   2 words
@@ -110,7 +110,7 @@ uint64_t krakvinge_all(const uint32_t *state, size_t state_words, const uint32_t
                        size_t dot_words, const int32_t *rects, size_t rect_words, uint8_t *marks, size_t mark_bytes, uint32_t *ids,
                        size_t id_words, uint32_t *answer, size_t answer_words);
 
-/* Six words a leaf: centre x, centre y, half width, half height, depth, count. */
+/* Six words a leaf: the centre's x and y, half width and half height, depth, count. */
 uint64_t krakvinge_leaves(const uint32_t *state, size_t state_words, const uint32_t *nodes, size_t node_words, const uint32_t *dots,
                           size_t dot_words, const int32_t *rects, size_t rect_words, uint8_t *marks, size_t mark_bytes, int32_t *row,
                           size_t row_words, uint32_t *answer, size_t answer_words);
