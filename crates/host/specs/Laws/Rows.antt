@@ -1,6 +1,6 @@
 -- Laws of a state and an answer as rows.
 --     signed-near, signed-far, far-wide, far-narrow    the number that a word stands for, and that it fits
---     unfit, fit, ten, two     what the code's test of the lengths says
+--     unfit, fit, ten, two, ten-two    what the code's test of the lengths says
 --     answer-words     an answer row that is written
 --     keeps-state, kept-row    a row that is written with what it holds is as it was
 --     told         a rectangle by the four numbers of a call
@@ -56,6 +56,9 @@ module _ (state answer : List ℕ) {b : Bool} (test : b ≡ rowsFit state answer
   pub two : not b ≡ false → length answer ≡ 2
   unfolding rowsFit
   two n = eqb-true _ _ (and-t (eqb (length state) 10) (eqb (length answer) 2) (fit test n) .1)
+
+  pub ten-two : not b ≡ false → (length state ≡ 10) × (length answer ≡ 2)
+  ten-two n = (ten n, two n)
 
 -- two stores fill an answer row
 pub answer-words : (row : List ℕ) (a b : ℕ) → length row ≡ 2 → set (set row 0 a) 1 b ≡ a ∷ b ∷ []
