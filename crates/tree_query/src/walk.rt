@@ -100,6 +100,7 @@ pub fn walk_node(
         rects,
         first,
         levels - 1,
+        5,
         cell,
         quadrants,
         query,
@@ -109,13 +110,14 @@ pub fn walk_node(
     )
 }
 
-// Hands back the children of a group that the query opens, from child 0 on.
+// Hands back the last `left` children of a group, those that the query opens, in rising order.
 fn walk_group(
     nodes: &[u32],
     dots: &[u32],
     rects: &[i32],
     first: usize,
     levels: u32,
+    left: u32,
     cell: CenteredAABB,
     quadrants: Quadrants,
     query: AABB,
@@ -123,30 +125,57 @@ fn walk_group(
     row: &mut [u32],
     room: usize,
 ) -> Found
-    requires { ⌜ GroupWalk query cell quadrants (now nodes) (now dots) (now rects) room (now row) found first levels 5 ⌝ }
-    ensures { λ r. ⌜ GroupWalked query cell (now (nodes .entry)) (now (dots .entry)) (now (rects .entry)) room (now (row .entry)) found first levels 5
+    requires { ⌜ GroupWalk query cell quadrants (now nodes) (now dots) (now rects) room (now row) found first levels left ⌝ }
+    ensures { λ r. ⌜ GroupWalked query cell (now (nodes .entry)) (now (dots .entry)) (now (rects .entry)) room (now (row .entry)) found first levels left
         (now (row .exit)) r ⌝ }
 {
-    let mut met = found;
-    let mut left = 5u32;
-    while left > 0 {
-        let child = 5 - left;
-        left -= 1;
-        if !((child == 0) | quadrants.at(child)) {
-            continue;
-        }
-        met = walk_node(
+    if left == 0 {
+        return found;
+    }
+    let child = 5 - left;
+    let rest = left - 1;
+    if !((child == 0) | quadrants.at(child)) {
+        return walk_group(
             nodes,
             dots,
             rects,
-            first + child as usize,
+            first,
             levels,
-            cell.split(child),
+            rest,
+            cell,
+            quadrants,
             query,
-            met,
+            found,
             row,
             room,
         );
     }
-    met
+    let node = first + child as usize;
+    let below = cell.split(child);
+    let met = walk_node(
+        nodes,
+        dots,
+        rects,
+        node,
+        levels,
+        below,
+        query,
+        found,
+        row,
+        room,
+    );
+    walk_group(
+        nodes,
+        dots,
+        rects,
+        first,
+        levels,
+        rest,
+        cell,
+        quadrants,
+        query,
+        met,
+        row,
+        room,
+    )
 }

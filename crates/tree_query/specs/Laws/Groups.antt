@@ -1,6 +1,7 @@
--- The query's walk of a group: the loop over its children, by what the code reads of each.
---     group-node                   what the walk of a child that is opened asks
---     Ahead; ahead-skip, ahead-walked, ahead-end      the loop at each turn: a child that isn't opened; one that is; none is left
+-- The query's walk of a group, child by child, by what the code reads of each.
+--     group-none                   no child is left
+--     skip-asks, skip-gives        the first child isn't opened: what the others' walk asks, and what it gives
+--     group-node, group-rest, group-gives      it is: what its walk asks; what the others' walk asks; both together
 use mathlib.Core.Path.{_≡_, refl, ap, sym, _∙_, subst}
 use mathlib.Core.List.{List, [], _++_}
 use mathlib.Core.Bool.{Bool, true, false, cond, not, _||_}
@@ -41,8 +42,11 @@ opens-bit q cell quadrants i e n c =
     ap (λ (k : ℕ). eqb i 0 || bitAt k i) e ∙ opens-code cell q i ∙ ap (λ (d : CenteredAABB). opensCell d q i) (sym c)
 
 module _ {q : AABB} {cell : CenteredAABB} {quadrants : Quadrants} {nodes dots : List ℕ} {rects : List ℤ} {room : ℕ}
-    {row : List ℕ} {found : Found} {first levels left : ℕ} (some : 1 ≤ left)
+    {row : List ℕ} {found : Found} {first levels left : ℕ} (some : left ≡ 0 → ⊥)
     (w : GroupWalk q cell quadrants nodes dots rects room row found first levels left) where
+  least : 1 ≤ left
+  least = omega (arith, some)
+
   abbrev child : ℕ
   child = 5 - left
 
@@ -50,7 +54,7 @@ module _ {q : AABB} {cell : CenteredAABB} {quadrants : Quadrants} {nodes dots : 
   tree = w .children child
 
   child-stands : TreeStands nodes dots rects levels (childNode (w .group) child) tree
-  child-stands = w .stands child (omega (arith, w .small)) (omega arith)
+  child-stands = w .stands child (omega (arith, w .small)) (omega (arith, least))
 
   -- what the code's bit says of the child
   opens-child : {bit shown : Bool} → bit ≡ bitAt (quadrants .code) child → (eqb child 0 || bit) ≡ shown
@@ -68,8 +72,8 @@ module _ {q : AABB} {cell : CenteredAABB} {quadrants : Quadrants} {nodes dots : 
         small = omega (arith, w .small);
         stands = λ i low b. w .stands i (omega arith) b;
         grows = record {
-          hits = omega (arith, w .grows .hits, sum-step (λ i. size (w .children i)) left some);
-          opened = omega (arith, w .grows .opened, sum-step (λ i. nodeTotal (w .children i)) left some);
+          hits = omega (arith, w .grows .hits, sum-step (λ i. size (w .children i)) left least);
+          opened = omega (arith, w .grows .opened, sum-step (λ i. nodeTotal (w .children i)) left least);
         };
         fits = omega (arith, w .fits);
         cellFits = w .cellFits;
@@ -78,14 +82,23 @@ module _ {q : AABB} {cell : CenteredAABB} {quadrants : Quadrants} {nodes dots : 
 
   -- ---- the child is not opened
 
-  group-skipped : ((n : NodeData) → n .cell ≡ cell → opens q n child ≡ false) → (row′ : List ℕ) (r : Found)
+  skipped : ((n : NodeData) → n .cell ≡ cell → opens q n child ≡ false) → (row′ : List ℕ) (r : Found)
       → GroupWalked q cell nodes dots rects room row found first levels (left - 1) row′ r
       → GroupWalked q cell nodes dots rects room row found first levels left row′ r
   unfolding GroupWalked
-  group-skipped shut row′ r g = λ group f n h s e.
+  skipped shut row′ r g = λ group f n h s e.
       let l = g group f n h (λ i low b. s i (omega arith) b) e in
-      rw (hits-step q n f left some, opened-step q n f left some, shut n e)
+      rw (hits-step q n f left least, opened-step q n f left least, shut n e)
       (subst (λ (k : ℕ). Left room row found (groupHits q n f (left - 1)) k row′ r) (omega arith) l)
+
+  pub skip-asks : {bit : Bool} → bit ≡ bitAt (quadrants .code) child → not (eqb child 0 || bit) ≡ true
+      → GroupWalk q cell quadrants nodes dots rects room row found first levels (left - 1)
+  skip-asks read shut = rest row found refl (omega arith) (omega arith)
+
+  pub skip-gives : {bit : Bool} → bit ≡ bitAt (quadrants .code) child → not (eqb child 0 || bit) ≡ true → (row′ : List ℕ) (r : Found)
+      → GroupWalked q cell nodes dots rects room row found first levels (left - 1) row′ r
+      → GroupWalked q cell nodes dots rects room row found first levels left row′ r
+  skip-gives read shut row′ r g = skipped (opens-child read (not-true _ shut)) row′ r g
 
   -- ---- the child is opened
 
@@ -96,8 +109,8 @@ module _ {q : AABB} {cell : CenteredAABB} {quadrants : Quadrants} {nodes dots : 
         tree = tree;
         stands = subst (λ (a : ℕ). TreeStands nodes dots rects levels a tree) (sym node) child-stands;
         grows = record {
-          hits = omega (arith, w .grows .hits, sum-step (λ i. size (w .children i)) left some);
-          opened = omega (arith, w .grows .opened, sum-step (λ i. nodeTotal (w .children i)) left some);
+          hits = omega (arith, w .grows .hits, sum-step (λ i. size (w .children i)) left least);
+          opened = omega (arith, w .grows .opened, sum-step (λ i. nodeTotal (w .children i)) left least);
         };
         fits = w .fits;
         cellFits = subst InRange (sym e) (child-range cell child (w .cellFits));
@@ -117,7 +130,7 @@ module _ {q : AABB} {cell : CenteredAABB} {quadrants : Quadrants} {nodes dots : 
     some-data : NodeData
     some-data = record { cell = cell; depth = 0; «is_child_0» = false }
 
-    group-rest : GroupWalk q cell quadrants nodes dots rects room row₁ f₁ first levels (left - 1)
+    pub group-rest : GroupWalk q cell quadrants nodes dots rects room row₁ f₁ first levels (left - 1)
     unfolding some-data after
     group-rest =
         let n = childData some-data child in
@@ -126,50 +139,22 @@ module _ {q : AABB} {cell : CenteredAABB} {quadrants : Quadrants} {nodes dots : 
         (omega (arith, ap (λ (f : Found). f .hits) (l .answer), hits-size q n tree))
         (omega (arith, ap (λ (f : Found). f .opened) (l .answer), opened-total q n tree))
 
-    group-walked : ((n : NodeData) → n .cell ≡ cell → opens q n child ≡ true) → (row₂ : List ℕ) (f₂ : Found)
+    walked : ((n : NodeData) → n .cell ≡ cell → opens q n child ≡ true) → (row₂ : List ℕ) (f₂ : Found)
         → GroupWalked q cell nodes dots rects room row₁ f₁ first levels (left - 1) row₂ f₂
         → GroupWalked q cell nodes dots rects room row found first levels left row₂ f₂
     unfolding GroupWalked
-    group-walked shown row₂ f₂ g = λ group f n h s e.
-        let one = child-left group f n h (s child (omega (arith, w .small)) (omega arith)) e in
-        rw (hits-step q n f left some, opened-step q n f left some, shown n e)
+    walked shown row₂ f₂ g = λ group f n h s e.
+        let one = child-left group f n h (s child (omega (arith, w .small)) (omega (arith, least))) e in
+        rw (hits-step q n f left least, opened-step q n f left least, shown n e)
         (left-then one (g group f n h (λ j low b. s j (omega arith) b) e))
 
--- ---- the loop over a group's children
+    pub group-gives : {bit : Bool} → bit ≡ bitAt (quadrants .code) child → not (eqb child 0 || bit) ≡ false → (row₂ : List ℕ) (f₂ : Found)
+        → GroupWalked q cell nodes dots rects room row₁ f₁ first levels (left - 1) row₂ f₂
+        → GroupWalked q cell nodes dots rects room row found first levels left row₂ f₂
+    group-gives read shown row₂ f₂ g = walked (opens-child read (not-false _ shown)) row₂ f₂ g
 
-module _ (q : AABB) (cell : CenteredAABB) (quadrants : Quadrants) (nodes dots : List ℕ) (rects : List ℤ) (room : ℕ)
-    (row₀ : List ℕ) (found₀ : Found) (first levels : ℕ) where
-  -- the last `left` children are to be walked; with what has been met they make the whole
-  pub record Ahead (row : List ℕ) (found : Found) (left : ℕ) : Type 0 where
-    pub walk : GroupWalk q cell quadrants nodes dots rects room row found first levels left
-    pub same : length row ≡ length row₀
-    pub whole : (row′ : List ℕ) (r : Found) → GroupWalked q cell nodes dots rects room row found first levels left row′ r
-        → GroupWalked q cell nodes dots rects room row₀ found₀ first levels 5 row′ r
-
-module _ {q : AABB} {cell : CenteredAABB} {quadrants : Quadrants} {nodes dots : List ℕ} {rects : List ℤ} {room : ℕ}
-    {row₀ : List ℕ} {found₀ : Found} {first levels : ℕ} {row : List ℕ} {found : Found} {left : ℕ}
-    (a : Ahead q cell quadrants nodes dots rects room row₀ found₀ first levels row found left) where
-  -- with what the code reads of the child
-  module _ {b : Bool} (some : 1 ≤ left) (e : b ≡ bitAt (quadrants .code) (5 - left)) where
-    pub ahead-skip : not (eqb (5 - left) 0 || b) ≡ true → Ahead q cell quadrants nodes dots rects room row₀ found₀ first levels row found (left - 1)
-    ahead-skip n =
-        record {
-          walk = rest some (a .walk) row found refl (omega arith) (omega arith);
-          same = a .same;
-          whole = λ row′ r g. a .whole row′ r (group-skipped some (a .walk) (opens-child some (a .walk) e (not-true _ n)) row′ r g);
-        }
-
-    pub ahead-walked : {below : CenteredAABB} {row₁ : List ℕ} {f₁ : Found} → not (eqb (5 - left) 0 || b) ≡ false → below ≡ childCell cell (5 - left)
-        → NodeWalked q below nodes dots rects room row found (first + (5 - left)) levels row₁ f₁ → length row₁ ≡ length row
-        → Ahead q cell quadrants nodes dots rects room row₀ found₀ first levels row₁ f₁ (left - 1)
-    ahead-walked {row₁ = row₁} {f₁ = f₁} n c node l =
-        record {
-          walk = group-rest some (a .walk) c row₁ f₁ node;
-          same = l ∙ a .same;
-          whole = λ row′ r g. a .whole row′ r (group-walked some (a .walk) c row₁ f₁ node (opens-child some (a .walk) e (not-false _ n)) row′ r g);
-        }
-
-  pub ahead-end : left ≡ 0 → GroupWalked q cell nodes dots rects room row₀ found₀ first levels 5 row found
-  unfolding GroupWalked
-  ahead-end z = a .whole row found (λ g f n h s e.
-      subst (λ (k : ℕ). Left room row found (groupHits q n f k) (groupOpened q n f k) row found) (sym z) (left-none room row found))
+pub group-none : (q : AABB) (cell : CenteredAABB) (nodes dots : List ℕ) (rects : List ℤ) (room : ℕ) (row : List ℕ) (found : Found) (first levels left : ℕ)
+    → left ≡ 0 → GroupWalked q cell nodes dots rects room row found first levels left row found
+unfolding GroupWalked
+group-none q cell nodes dots rects room row found first levels left z = λ g f n h s e.
+    subst (λ (k : ℕ). Left room row found (groupHits q n f k) (groupOpened q n f k) row found) (sym z) (left-none room row found)
