@@ -30,8 +30,8 @@ pub fn batch(
     marks: &mut [u8],
 ) -> Batched
     ensures { λ r. ⌜ Batch (world state (now (nodes .entry)) (now (dots .entry)) (now (rects .entry)) (now (marks .entry))) (now (rows .entry))
-        (now (answers .entry)) (world (r .state) (now (nodes .exit)) (now (dots .exit)) (now (rects .exit)) (now (marks .exit))) (now (answers .exit))
-        (batchReply r) ⌝ }
+        (now (answers .entry)) (world (r .state) (now (nodes .exit)) (now (dots .exit)) (now (rects .exit)) (now (marks .exit)))
+        (now (answers .exit)) (batchReply r) ⌝ }
 {
     let mut batched = begin(rows.len(), answers.len(), state, nodes, dots, rects, marks);
     let count = batched.count;
