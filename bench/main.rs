@@ -22,7 +22,7 @@ fn main() {
     let inserted: Vec<_> = DOTS.map(inserts::print).into();
     let walked: Vec<_> = DOTS.map(queries::print).into();
     checks::print(&DOTS);
-    println!("\ntargets: inserts by batch of 60000 at most 0.4, the query's walk at leaf limit 16 at most 0.9");
+    println!("\ntargets: inserts by batch of 60000 at most 0.4, the query's walk at leaf limit 16 of 60000 at most 1.0");
     for (dots, (inserts, walks)) in DOTS.iter().zip(inserted.iter().zip(&walked)) {
         println!("{dots:>5} dots: inserts by batch {inserts}; the walk at leaf limit 16 {walks}");
     }
