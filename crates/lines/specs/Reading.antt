@@ -3,7 +3,7 @@
 --     Reads        fields at the front of bytes, and what is left of them
 --     Whole        fields and nothing else
 --     Put          bytes put into a row at a place
---     Written      a row that begins with bytes
+--     Output, Written      what a row was and is, and the place answered; a row that begins with bytes, and is else as it was
 --     untilComma, fromComma      the bytes before the first comma, and from it on
 --     value        what the reader makes of bytes before it holds them against the text
 use mathlib.Core.Path.{_≡_}
@@ -41,15 +41,26 @@ pub record Whole (kinds : List Kind) (bytes : List ℕ) (read? : Bool) (zs : Lis
   pub sound : read? ≡ true → WithinAll kinds zs × (bytes ≡ fields zs)
   pub complete : (ys : List ℤ) → WithinAll kinds ys → bytes ≡ fields ys → (read? ≡ true) × (zs ≡ ys)
 
--- row is row₀ up to `at`, then the bytes, up to next
+-- row is row₀ up to `at`, then the bytes, up to next, then row₀ again
 pub record Put (row₀ : List ℕ) (at : ℕ) (bytes row : List ℕ) (next : ℕ) : Type 0 where
   pub ends : next ≡ at + length bytes
   pub holds : take next row ≡ take at row₀ ++ bytes
+  pub kept : drop next row ≡ drop next row₀
 
--- a row that begins with the bytes, up to next
-pub record Written (row : List ℕ) (next : ℕ) (bytes : List ℕ) : Type 0 where
-  pub within : next ≤ length row
-  pub holds : take next row ≡ bytes
+-- a lent row before and after a call, and the place that the call answers
+pub record Output : Type 0 where
+  pub before : List ℕ
+  pub after : List ℕ
+  pub next : ℕ
+
+abbrev pub output : List ℕ → List ℕ → ℕ → Output
+output before after next = record { before = before; after = after; next = next }
+
+-- the row begins with the bytes, which end at next, within the row, and is from there on what it was
+pub record Written (out : Output) (bytes : List ℕ) : Type 0 where
+  pub ends : out .next ≡ length bytes
+  pub within : out .next ≤ length (out .after)
+  pub holds : out .after ≡ bytes ++ drop (out .next) (out .before)
 
 unfoldable pub untilComma : List ℕ → List ℕ
 untilComma [] = []

@@ -5,7 +5,7 @@ ghost use Prim.Native.Nat.{_+_, _*_, _≤_, _<_};
 ghost use lib.IntN.{pos};
 ghost use lib.ListN.{length, take};
 ghost use Rattle.lines.specs.Text.{fields, answer};
-ghost use Rattle.lines.specs.Reading.{Put, Written};
+ghost use Rattle.lines.specs.Reading.{Put, output, Written};
 use crate::number::put_natural;
 
 fn put_byte(out: &mut [u8], at: usize, b: u8) -> usize
@@ -42,7 +42,7 @@ fn put_fields(out: &mut [u8], at: usize, row: &[u32], count: usize) -> usize
 // A line of one number.
 pub fn answer_one(out: &mut [u8], letter: u8, a: u32) -> usize
     requires { ⌜ 13 ≤ length (now out) ⌝ }
-    ensures { λ r. ⌜ Written (now (out .exit)) r (answer letter (a ∷ [])) ⌝ }
+    ensures { λ r. ⌜ Written (output (now (out .entry)) (now (out .exit)) r) (answer letter (a ∷ [])) ⌝ }
 {
     let first = put_byte(out, 0, letter);
     let end = put_field(out, first, a);
@@ -52,7 +52,7 @@ pub fn answer_one(out: &mut [u8], letter: u8, a: u32) -> usize
 // A line of two numbers.
 pub fn answer_two(out: &mut [u8], letter: u8, a: u32, b: u32) -> usize
     requires { ⌜ 24 ≤ length (now out) ⌝ }
-    ensures { λ r. ⌜ Written (now (out .exit)) r (answer letter (a ∷ b ∷ [])) ⌝ }
+    ensures { λ r. ⌜ Written (output (now (out .entry)) (now (out .exit)) r) (answer letter (a ∷ b ∷ [])) ⌝ }
 {
     let first = put_byte(out, 0, letter);
     let second = put_field(out, first, a);
@@ -71,7 +71,7 @@ fn listed(hits: u32, row: &[u32]) -> usize
 // A query's line: the nodes opened, the hits, and the ids, with which the row begins.
 pub fn answer_query(out: &mut [u8], opened: u32, hits: u32, row: &[u32]) -> usize
     requires { ⌜ 24 + 11 * length (now row) ≤ length (now out) ⌝ }
-    ensures { λ r. ⌜ Written (now (out .exit)) r (answer 81 (opened ∷ hits ∷ take hits (now (row .entry)))) ⌝ }
+    ensures { λ r. ⌜ Written (output (now (out .entry)) (now (out .exit)) r) (answer 81 (opened ∷ hits ∷ take hits (now (row .entry)))) ⌝ }
 {
     let first = put_byte(out, 0, b'Q');
     let second = put_field(out, first, opened);

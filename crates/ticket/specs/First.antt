@@ -10,6 +10,7 @@ use Rattle.model.specs.declared.State.{State}
 use Rattle.model.specs.Layout.{World}
 use Rattle.model.specs.Calls.{Reply, refused, tooMany, answered, Make}
 use Rattle.lines.specs.Text.{answer}
+use Rattle.lines.specs.Reading.{Output, Written}
 use Rattle.lines.specs.Lines.{LineOf}
 use Rattle.lines.specs.declared.line.Call.{Call}
 use Rattle.lines.specs.declared.line.Call.the-variants as call
@@ -28,36 +29,35 @@ abbrev pub afterStart : State → Start → State
 afterStart before (start.Going s n) = s
 afterStart before (start.Ended n) = before
 
--- the program goes on exactly if make was accepted
-abbrev pub GoesOn : Start → Reply (Unit {0}) → Type 0
-GoesOn r (refused k) = r ≡ start.Ended (endOf r)
-GoesOn r (tooMany n) = ⊥
-GoesOn (start.Going s n) (answered a) = Unit {0}
-GoesOn (start.Ended n) (answered a) = ⊥
+-- the program goes on, with make's state, exactly if make was accepted
+abbrev pub startOf : Reply (Unit {0}) → State → ℕ → Start
+startOf (refused k) s n = start.Ended n
+startOf (tooMany k) s n = start.Ended n
+startOf (answered a) s n = start.Going s n
 
 -- §13.5: `S,` and D; with settings out of range `E,2`, and the end
-pub record MakeLine (w : World) (s : Settings) (r : Start) (w′ : World) (bytes : List ℕ) : Type 0 where
+pub record MakeLine (w : World) (s : Settings) (r : Start) (w′ : World) (out : Output) : Type 0 where
   pub reply : Reply (Unit {0})
   pub call : Make w s w′ reply
-  pub goes : GoesOn r reply
-  pub line : bytes ≡ replyLine (λ _. answer 83 (D s ∷ [])) reply
+  pub goes : r ≡ startOf reply (w′ .state) (out .next)
+  pub line : Written out (replyLine (λ _. answer 83 (D s ∷ [])) reply)
 
 -- §13.5: any other first line, or none, is `E,9`, and the end
-pub record NoStart (w : World) (r : Start) (w′ : World) (bytes : List ℕ) : Type 0 where
-  pub ends : r ≡ start.Ended (endOf r)
+pub record NoStart (w : World) (r : Start) (w′ : World) (out : Output) : Type 0 where
+  pub ends : r ≡ start.Ended (out .next)
   pub kept : w′ ≡ w
-  pub line : bytes ≡ refusalLine 9
+  pub line : Written out (refusalLine 9)
 
-abbrev pub FirstAnswer : World → Line → Start → World → List ℕ → Type 0
-FirstAnswer w (line.Call (call.Settings s)) r w′ bytes = MakeLine w s r w′ bytes
-FirstAnswer w (line.Call (call.Insert d)) r w′ bytes = NoStart w r w′ bytes
-FirstAnswer w (line.Call (call.Remove d)) r w′ bytes = NoStart w r w′ bytes
-FirstAnswer w (line.Call call.Cleanup) r w′ bytes = NoStart w r w′ bytes
-FirstAnswer w (line.Call (call.Query q)) r w′ bytes = NoStart w r w′ bytes
-FirstAnswer w line.Unreadable r w′ bytes = NoStart w r w′ bytes
+abbrev pub FirstAnswer : World → Line → Start → World → Output → Type 0
+FirstAnswer w (line.Call (call.Settings s)) r w′ out = MakeLine w s r w′ out
+FirstAnswer w (line.Call (call.Insert d)) r w′ out = NoStart w r w′ out
+FirstAnswer w (line.Call (call.Remove d)) r w′ out = NoStart w r w′ out
+FirstAnswer w (line.Call call.Cleanup) r w′ out = NoStart w r w′ out
+FirstAnswer w (line.Call (call.Query q)) r w′ out = NoStart w r w′ out
+FirstAnswer w line.Unreadable r w′ out = NoStart w r w′ out
 
 -- THE STATEMENT for the first line: what it says, and the answer to that
-pub record Started (w : World) (input : List ℕ) (r : Start) (w′ : World) (bytes : List ℕ) : Type 0 where
+pub record Started (w : World) (input : List ℕ) (r : Start) (w′ : World) (out : Output) : Type 0 where
   pub says : Line
   pub is : LineOf input says
-  pub answer : FirstAnswer w says r w′ bytes
+  pub answer : FirstAnswer w says r w′ out

@@ -14,6 +14,7 @@ use Rattle.model.specs.Layout.{World}
 use Rattle.model.specs.declared.answers.Found.{Found}
 use Rattle.model.specs.Calls.{Reply, refused, tooMany, answered, yesNo, Insert, Remove, Cleanup, Query}
 use Rattle.lines.specs.Text.{answer}
+use Rattle.lines.specs.Reading.{Output, Written}
 use Rattle.lines.specs.Lines.{LineOf}
 use Rattle.lines.specs.declared.line.Call.{Call}
 use Rattle.lines.specs.declared.line.Call.the-variants as call
@@ -30,51 +31,51 @@ replyLine f (tooMany n) = refusalLine 8
 replyLine f (answered a) = f a
 
 -- §13.6: `I,id,splits`
-pub record InsertLine (w : World) (dot : Dot) (w′ : World) (bytes : List ℕ) : Type 0 where
+pub record InsertLine (w : World) (dot : Dot) (w′ : World) (out : Output) : Type 0 where
   pub reply : Reply ℕ
   pub call : Insert w dot w′ reply
-  pub line : bytes ≡ replyLine (λ splits. answer 73 (dot .id ∷ splits ∷ [])) reply
+  pub line : Written out (replyLine (λ splits. answer 73 (dot .id ∷ splits ∷ [])) reply)
 
 -- §13.6: `D,id,1` or `D,id,0`
-pub record RemoveLine (w : World) (dot : Dot) (w′ : World) (bytes : List ℕ) : Type 0 where
+pub record RemoveLine (w : World) (dot : Dot) (w′ : World) (out : Output) : Type 0 where
   pub reply : Reply Bool
   pub call : Remove w (dot .id) (dot .rect) w′ reply
-  pub line : bytes ≡ replyLine (λ yes?. answer 68 (dot .id ∷ yesNo yes? ∷ [])) reply
+  pub line : Written out (replyLine (λ yes?. answer 68 (dot .id ∷ yesNo yes? ∷ [])) reply)
 
 -- §13.6: `C,1` or `C,0`
-pub record CleanupLine (w : World) (w′ : World) (bytes : List ℕ) : Type 0 where
+pub record CleanupLine (w : World) (w′ : World) (out : Output) : Type 0 where
   pub reply : Reply Bool
   pub call : Cleanup w w′ reply
-  pub line : bytes ≡ replyLine (λ yes?. answer 67 (yesNo yes? ∷ [])) reply
+  pub line : Written out (replyLine (λ yes?. answer 67 (yesNo yes? ∷ [])) reply)
 
 -- §13.6: `Q,opened,hits` and the ids
-pub record QueryLine (w : World) (r : AABB) (row : List ℕ) (w′ : World) (row′ bytes : List ℕ) : Type 0 where
+pub record QueryLine (w : World) (r : AABB) (row : List ℕ) (w′ : World) (row′ : List ℕ) (out : Output) : Type 0 where
   pub reply : Reply Found
   pub call : Query w r row w′ row′ reply
-  pub line : bytes ≡ replyLine (λ l. answer 81 (l .opened ∷ l .hits ∷ take (l .hits) row′)) reply
+  pub line : Written out (replyLine (λ l. answer 81 (l .opened ∷ l .hits ∷ take (l .hits) row′)) reply)
 
 -- an unreadable line or a second `S`: refusal 9, and nothing is changed
-abbrev pub Nine : World → List ℕ → World → List ℕ → List ℕ → Type 0
-Nine w row w′ row′ bytes = (w′ ≡ w) × (row′ ≡ row) × (bytes ≡ refusalLine 9)
+abbrev pub Nine : World → List ℕ → World → List ℕ → Output → Type 0
+Nine w row w′ row′ out = (w′ ≡ w) × (row′ ≡ row) × Written out (refusalLine 9)
 
 -- a call's answer; the row is a query's
-abbrev pub CallLine : World → List ℕ → Call → World → List ℕ → List ℕ → Type 0
-CallLine w row (call.Settings s) w′ row′ bytes = Nine w row w′ row′ bytes
-CallLine w row (call.Insert dot) w′ row′ bytes = (row′ ≡ row) × InsertLine w dot w′ bytes
-CallLine w row (call.Remove dot) w′ row′ bytes = (row′ ≡ row) × RemoveLine w dot w′ bytes
-CallLine w row call.Cleanup w′ row′ bytes = (row′ ≡ row) × CleanupLine w w′ bytes
-CallLine w row (call.Query r) w′ row′ bytes = QueryLine w r row w′ row′ bytes
+abbrev pub CallLine : World → List ℕ → Call → World → List ℕ → Output → Type 0
+CallLine w row (call.Settings s) w′ row′ out = Nine w row w′ row′ out
+CallLine w row (call.Insert dot) w′ row′ out = (row′ ≡ row) × InsertLine w dot w′ out
+CallLine w row (call.Remove dot) w′ row′ out = (row′ ≡ row) × RemoveLine w dot w′ out
+CallLine w row call.Cleanup w′ row′ out = (row′ ≡ row) × CleanupLine w w′ out
+CallLine w row (call.Query r) w′ row′ out = QueryLine w r row w′ row′ out
 
 -- the answer of the call that c is
-pub record Called (w : World) (row : List ℕ) (c : Call) (w′ : World) (row′ bytes : List ℕ) : Type 0 where
-  pub answer : CallLine w row c w′ row′ bytes
+pub record Called (w : World) (row : List ℕ) (c : Call) (w′ : World) (row′ : List ℕ) (out : Output) : Type 0 where
+  pub answer : CallLine w row c w′ row′ out
 
-abbrev pub LineAnswer : World → List ℕ → Line → World → List ℕ → List ℕ → Type 0
-LineAnswer w row (line.Call c) w′ row′ bytes = Called w row c w′ row′ bytes
-LineAnswer w row line.Unreadable w′ row′ bytes = Nine w row w′ row′ bytes
+abbrev pub LineAnswer : World → List ℕ → Line → World → List ℕ → Output → Type 0
+LineAnswer w row (line.Call c) w′ row′ out = Called w row c w′ row′ out
+LineAnswer w row line.Unreadable w′ row′ out = Nine w row w′ row′ out
 
 -- THE STATEMENT for a later line: what it says, and the answer to that
-pub record Answered (w : World) (row input : List ℕ) (w′ : World) (row′ bytes : List ℕ) : Type 0 where
+pub record Answered (w : World) (row input : List ℕ) (w′ : World) (row′ : List ℕ) (out : Output) : Type 0 where
   pub says : Line
   pub is : LineOf input says
-  pub answer : LineAnswer w row says w′ row′ bytes
+  pub answer : LineAnswer w row says w′ row′ out

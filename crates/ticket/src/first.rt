@@ -1,9 +1,10 @@
 // The first line: S, from which a fresh tree is made.
 ghost use mathlib.Core.Path.{_≡_};
 ghost use Prim.Native.Nat.{_≤_};
-ghost use lib.ListN.{length, take};
+ghost use lib.ListN.{length};
 ghost use Rattle.model.specs.declared.State.{State};
 ghost use Rattle.model.specs.Layout.{world};
+ghost use Rattle.lines.specs.Reading.{output, Written};
 ghost use Rattle.ticket.specs.Ticket.{refusalLine};
 ghost use Rattle.ticket.specs.First.{MakeLine, Started, afterStart, endOf};
 use calls::make::make;
@@ -21,7 +22,7 @@ pub enum Start {
     Ended(usize),
 }
 
-pub fn answer_settings(
+fn answer_settings(
     settings: Settings,
     nodes: &mut [u32],
     dots: &mut [u32],
@@ -33,7 +34,7 @@ pub fn answer_settings(
     ensures { λ r. ⌜ endOf r ≤ length (now (out .exit)) ⌝ }
     ensures { λ r. ⌜ ((before : State) → MakeLine (world before (now (nodes .entry)) (now (dots .entry)) (now (rects .entry)) (now (marks .entry)))
         settings r (world (afterStart before r) (now (nodes .exit)) (now (dots .exit)) (now (rects .exit)) (now (marks .exit)))
-        (take (endOf r) (now (out .exit)))) ⌝ }
+        (output (now (out .entry)) (now (out .exit)) (endOf r))) ⌝ }
 {
     match make(settings, nodes, dots, rects, marks) {
         MakeAnswer::Refused(number) => Start::Ended(answer_one(out, b'E', number)),
@@ -44,7 +45,7 @@ pub fn answer_settings(
 fn end_nine(out: &mut [u8]) -> Start
     requires { ⌜ 24 ≤ length (now out) ⌝ }
     ensures { λ r. ⌜ endOf r ≤ length (now (out .exit)) ⌝ }
-    ensures { λ r. ⌜ (r ≡ Start.Ended (endOf r)) × (take (endOf r) (now (out .exit)) ≡ refusalLine 9) ⌝ }
+    ensures { λ r. ⌜ (r ≡ Start.Ended (endOf r)) × Written (output (now (out .entry)) (now (out .exit)) (endOf r)) (refusalLine 9) ⌝ }
 {
     Start::Ended(answer_one(out, b'E', 9))
 }
@@ -62,7 +63,7 @@ pub fn answer_first(
     ensures { λ r. ⌜ endOf r ≤ length (now (out .exit)) ⌝ }
     ensures { λ r. ⌜ ((before : State) → Started (world before (now (nodes .entry)) (now (dots .entry)) (now (rects .entry)) (now (marks .entry)))
         (now (line .entry)) r (world (afterStart before r) (now (nodes .exit)) (now (dots .exit)) (now (rects .exit)) (now (marks .exit)))
-        (take (endOf r) (now (out .exit)))) ⌝ }
+        (output (now (out .entry)) (now (out .exit)) (endOf r))) ⌝ }
 {
     let Line::Call(call) = read_line(line) else {
         return end_nine(out);

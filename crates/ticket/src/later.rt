@@ -1,8 +1,9 @@
 // A line after the first: a call on the tree.
 ghost use mathlib.Core.Path.{_≡_};
 ghost use Prim.Native.Nat.{_+_, _*_, _≤_};
-ghost use lib.ListN.{length, take};
+ghost use lib.ListN.{length};
 ghost use Rattle.model.specs.Layout.{world};
+ghost use Rattle.lines.specs.Reading.{output, Written};
 ghost use Rattle.ticket.specs.Ticket.{InsertLine, RemoveLine, CleanupLine, QueryLine, Called, Answered, refusalLine};
 use calls::cleanup::cleanup;
 use calls::insert::insert;
@@ -28,7 +29,7 @@ pub struct Step {
     pub next: usize,
 }
 
-pub fn answer_insert(
+fn answer_insert(
     state: State,
     nodes: &mut [u32],
     dots: &mut [u32],
@@ -40,7 +41,8 @@ pub fn answer_insert(
     requires { ⌜ 24 ≤ length (now out) ⌝ }
     ensures { λ r. ⌜ r .next ≤ length (now (out .exit)) ⌝ }
     ensures { λ r. ⌜ InsertLine (world state (now (nodes .entry)) (now (dots .entry)) (now (rects .entry)) (now (marks .entry))) dot
-        (world (r .state) (now (nodes .exit)) (now (dots .exit)) (now (rects .exit)) (now (marks .exit))) (take (r .next) (now (out .exit))) ⌝ }
+        (world (r .state) (now (nodes .exit)) (now (dots .exit)) (now (rects .exit)) (now (marks .exit)))
+        (output (now (out .entry)) (now (out .exit)) (r .next)) ⌝ }
 {
     match insert(state, nodes, dots, rects, marks, dot) {
         InsertAnswer::Refused(number) => {
@@ -54,7 +56,7 @@ pub fn answer_insert(
     }
 }
 
-pub fn answer_remove(
+fn answer_remove(
     state: State,
     nodes: &mut [u32],
     dots: &mut [u32],
@@ -66,7 +68,8 @@ pub fn answer_remove(
     requires { ⌜ 24 ≤ length (now out) ⌝ }
     ensures { λ r. ⌜ r .next ≤ length (now (out .exit)) ⌝ }
     ensures { λ r. ⌜ RemoveLine (world state (now (nodes .entry)) (now (dots .entry)) (now (rects .entry)) (now (marks .entry))) dot
-        (world (r .state) (now (nodes .exit)) (now (dots .exit)) (now (rects .exit)) (now (marks .exit))) (take (r .next) (now (out .exit))) ⌝ }
+        (world (r .state) (now (nodes .exit)) (now (dots .exit)) (now (rects .exit)) (now (marks .exit)))
+        (output (now (out .entry)) (now (out .exit)) (r .next)) ⌝ }
 {
     let rect = dot.rect;
     match remove(state, nodes, dots, rects, marks, dot.id, rect) {
@@ -85,7 +88,7 @@ pub fn answer_remove(
     }
 }
 
-pub fn answer_cleanup(
+fn answer_cleanup(
     state: State,
     nodes: &mut [u32],
     dots: &[u32],
@@ -96,7 +99,8 @@ pub fn answer_cleanup(
     requires { ⌜ 24 ≤ length (now out) ⌝ }
     ensures { λ r. ⌜ r .next ≤ length (now (out .exit)) ⌝ }
     ensures { λ r. ⌜ CleanupLine (world state (now (nodes .entry)) (now (dots .entry)) (now (rects .entry)) (now (marks .entry)))
-        (world (r .state) (now (nodes .exit)) (now (dots .exit)) (now (rects .exit)) (now (marks .exit))) (take (r .next) (now (out .exit))) ⌝ }
+        (world (r .state) (now (nodes .exit)) (now (dots .exit)) (now (rects .exit)) (now (marks .exit)))
+        (output (now (out .entry)) (now (out .exit)) (r .next)) ⌝ }
 {
     match cleanup(state, nodes, dots, rects, marks) {
         CleanupAnswer::Refused(number) => {
@@ -110,7 +114,7 @@ pub fn answer_cleanup(
     }
 }
 
-pub fn answer_listing(
+fn answer_listing(
     state: State,
     nodes: &[u32],
     dots: &[u32],
@@ -124,7 +128,7 @@ pub fn answer_listing(
     ensures { λ r. ⌜ r .next ≤ length (now (out .exit)) ⌝ }
     ensures { λ r. ⌜ QueryLine (world state (now (nodes .entry)) (now (dots .entry)) (now (rects .entry)) (now (marks .entry))) rect
         (now (row .entry)) (world (r .state) (now (nodes .exit)) (now (dots .exit)) (now (rects .exit)) (now (marks .exit))) (now (row .exit))
-        (take (r .next) (now (out .exit))) ⌝ }
+        (output (now (out .entry)) (now (out .exit)) (r .next)) ⌝ }
 {
     match query(state, nodes, dots, rects, marks, rect, row) {
         QueryAnswer::Refused(number) => {
@@ -146,13 +150,13 @@ pub fn answer_listing(
 fn answer_nine(state: State, out: &mut [u8]) -> Step
     requires { ⌜ 24 ≤ length (now out) ⌝ }
     ensures { λ r. ⌜ r .next ≤ length (now (out .exit)) ⌝ }
-    ensures { λ r. ⌜ (r .state ≡ state) × (take (r .next) (now (out .exit)) ≡ refusalLine 9) ⌝ }
+    ensures { λ r. ⌜ (r .state ≡ state) × Written (output (now (out .entry)) (now (out .exit)) (r .next)) (refusalLine 9) ⌝ }
 {
     let next = answer_one(out, b'E', 9);
     Step { state, next }
 }
 
-pub fn answer_call(
+fn answer_call(
     state: State,
     nodes: &mut [u32],
     dots: &mut [u32],
@@ -166,7 +170,7 @@ pub fn answer_call(
     ensures { λ r. ⌜ r .next ≤ length (now (out .exit)) ⌝ }
     ensures { λ r. ⌜ Called (world state (now (nodes .entry)) (now (dots .entry)) (now (rects .entry)) (now (marks .entry))) (now (row .entry)) call
         (world (r .state) (now (nodes .exit)) (now (dots .exit)) (now (rects .exit)) (now (marks .exit))) (now (row .exit))
-        (take (r .next) (now (out .exit))) ⌝ }
+        (output (now (out .entry)) (now (out .exit)) (r .next)) ⌝ }
 {
     match call {
         Call::Settings(_) => answer_nine(state, out),
@@ -192,7 +196,7 @@ pub fn answer_line(
     ensures { λ r. ⌜ r .next ≤ length (now (out .exit)) ⌝ }
     ensures { λ r. ⌜ Answered (world state (now (nodes .entry)) (now (dots .entry)) (now (rects .entry)) (now (marks .entry))) (now (row .entry))
         (now (line .entry)) (world (r .state) (now (nodes .exit)) (now (dots .exit)) (now (rects .exit)) (now (marks .exit))) (now (row .exit))
-        (take (r .next) (now (out .exit))) ⌝ }
+        (output (now (out .entry)) (now (out .exit)) (r .next)) ⌝ }
 {
     match read_line(line) {
         Line::Call(call) => answer_call(state, nodes, dots, rects, marks, call, row, out),

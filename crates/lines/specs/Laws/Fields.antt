@@ -1,8 +1,9 @@
 -- Laws of fields.
 --     comma-here, comma-later, comma-none      the search for the comma, at a byte, past it, at the line's end
+--     number-until                             a number's text ends at the first comma
 --     field-at                                 a field is read exactly if its number is
 --     field-past, field-other, field-within    no field at the line's end, or at another byte; a field ends within the line
---     fields-append, then-at                   one field after another
+--     fields-append, fields-ends, then-at      one field after another
 --     three-at, four-at                        three numbers, four integers
 --     reads-whole                              fields to the line's end
 use mathlib.Core.Path.{_≡_, refl, ap, sym, _∙_}
@@ -77,7 +78,7 @@ plain-until (b ∷ bs) tail p h =
     let rest = plain-until bs tail (p .1) h in
     (rw (other, rest .0), rw other (rest .1))
 
-number-until : (z : ℤ) (tail : List ℕ) → Ends tail → (untilComma (number z ++ tail) ≡ number z) × (fromComma (number z ++ tail) ≡ tail)
+pub number-until : (z : ℤ) (tail : List ℕ) → Ends tail → (untilComma (number z ++ tail) ≡ number z) × (fromComma (number z ++ tail) ≡ tail)
 unfolding untilComma fromComma
 number-until (pos n) tail h = plain-until (decimal n) tail (digits-plain 10 n) h
 number-until (negsuc n) tail h =
@@ -171,10 +172,10 @@ within-part (k ∷ ks) ls (u ∷ us) w =
     let p = within-part ks ls us (w .1) in
     record { first = u ∷ p .first; second = p .second; joined = ap (λ (l : List ℤ). u ∷ l) (p .joined); one = (w .0, p .one); two = p .two }
 
-fields-end : (zs : List ℤ) (tail : List ℕ) → Ends tail → Ends (fields zs ++ tail)
+pub fields-ends : (zs : List ℤ) (tail : List ℕ) → Ends tail → Ends (fields zs ++ tail)
 unfolding fields
-fields-end [] tail h = h
-fields-end (z ∷ zs) tail h = refl
+fields-ends [] tail h = h
+fields-ends (z ∷ zs) tail h = refl
 
 join : (zs ys : List ℤ) (rest : List ℕ) → fields (zs ++ ys) ++ rest ≡ fields zs ++ (fields ys ++ rest)
 join zs ys rest = rw fields-append (append-assoc (fields zs) (fields ys) rest)
@@ -191,7 +192,7 @@ reads-then {ks} {ls} {bytes} {rest} {rest′} {f} {g} {zs} {ys} p q = record {
   complete = λ us tail w h e. let d = within-part ks ls us w in
       let e′ : bytes ≡ fields (d .first) ++ (fields (d .second) ++ tail) =
       e ∙ ap (λ (l : List ℤ). fields l ++ tail) (d .joined) ∙ join (d .first) (d .second) tail in
-      let r = p .complete (d .first) (fields (d .second) ++ tail) (d .one) (fields-end (d .second) tail h) e′ in
+      let r = p .complete (d .first) (fields (d .second) ++ tail) (d .one) (fields-ends (d .second) tail h) e′ in
       let s = q .complete (d .second) tail (d .two) h (r .2) in
       (rw (r .0, s .0), rw (d .joined, r .1, s .1), s .2);
 }

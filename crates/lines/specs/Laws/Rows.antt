@@ -7,31 +7,35 @@
 --     fields-same                                       the fields of the same numbers
 --     take-beyond                                       a row, taken further than it goes
 --     written                                           an answer's line: its letter, its fields, its LF
-use mathlib.Core.Path.{_≡_, refl, ap, sym, subst, _∙_}
+use mathlib.Core.Path.{_≡_, refl, ap, ap₂, sym, subst, _∙_}
 use mathlib.Core.List.{List, [], _∷_, _++_, map, append-assoc, append-nil}
 use Prim.Native.Nat.{ℕ, _+_, _-_, _*_, _/_, _%_, _<_, _≤_}
 use native.Mathlib.Omega.{arith}
 use native.Mathlib.Numerals.{add-one}
 use lib.IntN.{ℤ, pos}
-use lib.ListN.{length, take, getD, set, length-append, length-take}
-use lib.Seq.{take-suc-set, take-suc, take-all, take-length}
+use lib.ListN.{length, take, drop, getD, set, length-append, length-take, take-append-drop}
+use lib.Seq.{take-suc-set, take-suc, take-all, take-length, drop-set-lt, drop-drop}
 use Rattle.lines.specs.Text.{digits, decimal, fields, answer}
-use Rattle.lines.specs.Reading.{Put, Written}
+use Rattle.lines.specs.Reading.{Put, output, Written}
 use Rattle.lines.specs.Laws.Digits.{digits-none, digits-few, digits-more, digits-length}
 use Rattle.lines.specs.Laws.Fields.{fields-append}
 
 pub put-none : (row : List ℕ) (at : ℕ) → Put row at [] row at
-put-none row at = record { ends = omega arith; holds = sym (append-nil (take at row)) }
+put-none row at = record { ends = omega arith; holds = sym (append-nil (take at row)); kept = refl }
 
 pub put-byte : (row : List ℕ) (at b : ℕ) → at < length row → Put row at (b ∷ []) (set row at b) (at + 1)
-put-byte row at b h = record { ends = refl; holds = rw add-one (take-suc-set row at b h) }
+put-byte row at b h = record { ends = refl; holds = rw add-one (take-suc-set row at b h); kept = drop-set-lt (at + 1) row at b (omega arith) }
 
 pub put-then : {row₀ row row′ : List ℕ} {at next next′ : ℕ} {bs cs : List ℕ} → Put row₀ at bs row next → Put row next cs row′ next′
     → Put row₀ at (bs ++ cs) row′ next′
 put-then {row₀} {row} {row′} {at} {next} {next′} {bs} {cs} p q = record {
   ends = omega (arith, p .ends, q .ends, length-append bs cs);
   holds = q .holds ∙ ap (λ (l : List ℕ). l ++ cs) (p .holds) ∙ append-assoc (take at row₀) bs cs;
+  kept = q .kept ∙ subst (λ (n : ℕ). drop n row ≡ drop n row₀) (sym (q .ends)) (drop-further (length cs) (p .kept));
 }
+  where
+    drop-further : (k : ℕ) → drop next row ≡ drop next row₀ → drop (next + k) row ≡ drop (next + k) row₀
+    drop-further k e = sym (drop-drop k next row) ∙ ap (drop k) e ∙ drop-drop k next row₀
 
 pub put-is : {row₀ row : List ℕ} {at next : ℕ} {bs cs : List ℕ} → bs ≡ cs → Put row₀ at bs row next → Put row₀ at cs row next
 put-is {row₀} {row} {at} {next} e p = subst (λ (l : List ℕ). Put row₀ at l row next) e p
@@ -111,12 +115,14 @@ put-more row i count below within p q =
 pub take-beyond : (row : List ℕ) (n : ℕ) → length row < n → take (length row) row ≡ take n row
 take-beyond row n h = take-length row ∙ sym (take-all n row (omega arith))
 
-put-within : {row₀ row : List ℕ} {at next : ℕ} {bs : List ℕ} → at ≤ length row₀ → Put row₀ at bs row next → next ≤ length row
-put-within {row₀} {row} {at} {next} {bs} h p =
-    omega (arith, p .ends, length-take next row, length-take at row₀, simp length-append at (ap length (p .holds)))
-
 -- a line from its letter, its fields and its LF
 pub written : {out₀ out out′ out″ : List ℕ} {first end next : ℕ} (letter : ℕ) (ns : List ℕ) → Put out₀ 0 (letter ∷ []) out first
-    → Put out first (fields (map pos ns)) out′ end → Put out′ end (10 ∷ []) out″ next → Written out″ next (answer letter ns)
+    → Put out first (fields (map pos ns)) out′ end → Put out′ end (10 ∷ []) out″ next
+    → Written (output out₀ out″ next) (answer letter ns)
 unfolding answer
-written letter ns p q r = let whole = put-then p (put-then q r) in record { within = put-within (omega arith) whole; holds = whole .holds }
+written {out″ = out″} {next = next} letter ns p q r =
+    let whole = put-then p (put-then q r) in record {
+      ends = omega (arith, whole .ends);
+      within = omega (arith, whole .ends, length-take next out″, ap length (whole .holds));
+      holds = sym (take-append-drop next out″) ∙ ap₂ (λ (front rest : List ℕ). front ++ rest) (whole .holds) (whole .kept);
+    }

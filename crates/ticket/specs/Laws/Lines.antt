@@ -13,6 +13,7 @@ use Rattle.geometry.specs.declared.settings.Settings.{Settings}
 use Rattle.model.specs.declared.Dot.{Dot}
 use Rattle.model.specs.declared.State.{State}
 use Rattle.model.specs.Layout.{World, world}
+use Rattle.lines.specs.Reading.{Output, Written}
 use Rattle.lines.specs.Lines.{LineOf}
 use Rattle.lines.specs.declared.line.Call.{Call}
 use Rattle.lines.specs.declared.line.Call.the-variants as call
@@ -21,36 +22,36 @@ use Rattle.lines.specs.declared.line.Line.the-variants as line
 use Rattle.ticket.specs.declared.first.Start.{Start}
 use Rattle.ticket.specs.declared.first.Start.the-variants as start
 use Rattle.ticket.specs.Ticket.{refusalLine, InsertLine, RemoveLine, CleanupLine, QueryLine, Called, Answered}
-use Rattle.ticket.specs.First.{endOf, afterStart, MakeLine, NoStart, FirstAnswer, Started}
+use Rattle.ticket.specs.First.{afterStart, MakeLine, NoStart, FirstAnswer, Started}
 
 -- ---- a call of a later line
 
-module _ {w w′ : World} {row bytes : List ℕ} {c : Call} where
-  pub call-insert : {dot : Dot} → c ≡ call.Insert dot → InsertLine w dot w′ bytes → Called w row c w′ row bytes
+module _ {w w′ : World} {row : List ℕ} {out : Output} {c : Call} where
+  pub call-insert : {dot : Dot} → c ≡ call.Insert dot → InsertLine w dot w′ out → Called w row c w′ row out
   call-insert e h = rw e (record { answer = (refl, h) })
 
-  pub call-remove : {dot : Dot} → c ≡ call.Remove dot → RemoveLine w dot w′ bytes → Called w row c w′ row bytes
+  pub call-remove : {dot : Dot} → c ≡ call.Remove dot → RemoveLine w dot w′ out → Called w row c w′ row out
   call-remove e h = rw e (record { answer = (refl, h) })
 
-  pub call-cleanup : c ≡ call.Cleanup → CleanupLine w w′ bytes → Called w row c w′ row bytes
+  pub call-cleanup : c ≡ call.Cleanup → CleanupLine w w′ out → Called w row c w′ row out
   call-cleanup e h = rw e (record { answer = (refl, h) })
 
-  pub call-query : {r : AABB} {row′ : List ℕ} → c ≡ call.Query r → QueryLine w r row w′ row′ bytes → Called w row c w′ row′ bytes
+  pub call-query : {r : AABB} {row′ : List ℕ} → c ≡ call.Query r → QueryLine w r row w′ row′ out → Called w row c w′ row′ out
   call-query e h = rw e (record { answer = h })
 
 -- nothing is changed
-module _ {s s′ : State} {nodes dots : List ℕ} {rects : List ℤ} {marks row bytes : List ℕ} where
-  pub call-settings : {c : Call} {x : Settings} → c ≡ call.Settings x → s′ ≡ s → bytes ≡ refusalLine 9
-      → Called (world s nodes dots rects marks) row c (world s′ nodes dots rects marks) row bytes
+module _ {s s′ : State} {nodes dots : List ℕ} {rects : List ℤ} {marks row : List ℕ} {out : Output} where
+  pub call-settings : {c : Call} {x : Settings} → c ≡ call.Settings x → s′ ≡ s → Written out (refusalLine 9)
+      → Called (world s nodes dots rects marks) row c (world s′ nodes dots rects marks) row out
   call-settings e k l = rw e (record { answer = (ap (λ (x : State). world x nodes dots rects marks) k, refl, l) })
 
-  pub line-unreadable : {l : Line} {input : List ℕ} → l ≡ line.Unreadable → LineOf input l → s′ ≡ s → bytes ≡ refusalLine 9
-      → Answered (world s nodes dots rects marks) row input (world s′ nodes dots rects marks) row bytes
+  pub line-unreadable : {l : Line} {input : List ℕ} → l ≡ line.Unreadable → LineOf input l → s′ ≡ s → Written out (refusalLine 9)
+      → Answered (world s nodes dots rects marks) row input (world s′ nodes dots rects marks) row out
   line-unreadable e h k b =
       record { says = line.Unreadable; is = rw e at h; answer = (ap (λ (x : State). world x nodes dots rects marks) k, refl, b) }
 
-pub line-call : {w w′ : World} {row row′ input bytes : List ℕ} {l : Line} {c : Call} → l ≡ line.Call c → LineOf input l
-    → Called w row c w′ row′ bytes → Answered w row input w′ row′ bytes
+pub line-call : {w w′ : World} {row row′ input : List ℕ} {out : Output} {l : Line} {c : Call} → l ≡ line.Call c → LineOf input l
+    → Called w row c w′ row′ out → Answered w row input w′ row′ out
 line-call {c = c} e h a = record { says = line.Call c; is = rw e at h; answer = a }
 
 -- ---- the first line, whatever the state before it
@@ -63,31 +64,31 @@ isSettings call.Cleanup = false
 isSettings (call.Query r) = false
 
 -- refusal 9, and nothing is changed
-no-start : {nodes dots : List ℕ} {rects : List ℤ} {marks : List ℕ} {r : Start} {bytes : List ℕ} → r ≡ start.Ended (endOf r) → bytes ≡ refusalLine 9
-    → (before : State) → NoStart (world before nodes dots rects marks) r (world (afterStart before r) nodes dots rects marks) bytes
+no-start : {nodes dots : List ℕ} {rects : List ℤ} {marks : List ℕ} {r : Start} {out : Output} → r ≡ start.Ended (out .next) → Written out (refusalLine 9)
+    → (before : State) → NoStart (world before nodes dots rects marks) r (world (afterStart before r) nodes dots rects marks) out
 no-start {nodes} {dots} {rects} {marks} ends nine before =
     record { ends = ends; kept = ap (λ (x : Start). world (afterStart before x) nodes dots rects marks) ends; line = nine }
 
-module _ {nodes dots : List ℕ} {rects : List ℤ} {marks : List ℕ} {input : List ℕ} {r : Start} {bytes : List ℕ} {l : Line} where
+module _ {nodes dots : List ℕ} {rects : List ℤ} {marks : List ℕ} {input : List ℕ} {r : Start} {out : Output} {l : Line} where
   pub first-settings : {nodes′ dots′ : List ℕ} {rects′ : List ℤ} {marks′ : List ℕ} {c : Call} {x : Settings}
       → l ≡ line.Call c → c ≡ call.Settings x → LineOf input l
-      → ((before : State) → MakeLine (world before nodes dots rects marks) x r (world (afterStart before r) nodes′ dots′ rects′ marks′) bytes)
-      → (before : State) → Started (world before nodes dots rects marks) input r (world (afterStart before r) nodes′ dots′ rects′ marks′) bytes
+      → ((before : State) → MakeLine (world before nodes dots rects marks) x r (world (afterStart before r) nodes′ dots′ rects′ marks′) out)
+      → (before : State) → Started (world before nodes dots rects marks) input r (world (afterStart before r) nodes′ dots′ rects′ marks′) out
   first-settings {x = x} e f h m before =
       record { says = line.Call (call.Settings x); is = rw (e ∙ ap line.Call f) at h; answer = m before }
 
-  pub first-unreadable : l ≡ line.Unreadable → LineOf input l → r ≡ start.Ended (endOf r) → bytes ≡ refusalLine 9
-      → (before : State) → Started (world before nodes dots rects marks) input r (world (afterStart before r) nodes dots rects marks) bytes
+  pub first-unreadable : l ≡ line.Unreadable → LineOf input l → r ≡ start.Ended (out .next) → Written out (refusalLine 9)
+      → (before : State) → Started (world before nodes dots rects marks) input r (world (afterStart before r) nodes dots rects marks) out
   first-unreadable e h ends nine before = record { says = line.Unreadable; is = rw e at h; answer = no-start ends nine before }
 
   pub first-call : {c c′ : Call} → l ≡ line.Call c → c ≡ c′ → isSettings c′ ≡ false → LineOf input l
-      → r ≡ start.Ended (endOf r) → bytes ≡ refusalLine 9
-      → (before : State) → Started (world before nodes dots rects marks) input r (world (afterStart before r) nodes dots rects marks) bytes
+      → r ≡ start.Ended (out .next) → Written out (refusalLine 9)
+      → (before : State) → Started (world before nodes dots rects marks) input r (world (afterStart before r) nodes dots rects marks) out
   first-call {c} {c′} e f other h ends nine before =
       record { says = line.Call c′; is = rw (e ∙ ap line.Call f) at h; answer = go c′ other }
     where
       go : (d : Call) → isSettings d ≡ false
-          → FirstAnswer (world before nodes dots rects marks) (line.Call d) r (world (afterStart before r) nodes dots rects marks) bytes
+          → FirstAnswer (world before nodes dots rects marks) (line.Call d) r (world (afterStart before r) nodes dots rects marks) out
       go (call.Settings s) z = let no : _≡_ {A = ℕ} 0 1 = cc in absurd (omega arith)
       go (call.Insert dot) z = no-start ends nine before
       go (call.Remove dot) z = no-start ends nine before

@@ -4,7 +4,7 @@
 --     remove-refused, removed, not-removed     remove
 --     cleanup-refused, cleaned     cleanup
 --     query-refused, query-many, listed        query
-use mathlib.Core.Path.{_≡_, refl, ap, _∙_}
+use mathlib.Core.Path.{_≡_, refl, subst}
 use mathlib.Core.List.{List, [], _∷_}
 use mathlib.Core.Bool.{Bool, true, false}
 use Prim.Native.Nat.{ℕ}
@@ -30,6 +30,7 @@ use Rattle.model.specs.declared.answers.QueryAnswer.{QueryAnswer}
 use Rattle.model.specs.declared.answers.QueryAnswer.the-variants as query
 use Rattle.model.specs.Answers.{makeState, makeReply, insertReply, insertState, removeReply, removeState, cleanupReply, cleanupState, queryReply}
 use Rattle.lines.specs.Text.{answer}
+use Rattle.lines.specs.Reading.{Output, output, Written}
 use Rattle.ticket.specs.declared.first.Start.the-variants as start
 use Rattle.ticket.specs.Ticket.{refusalLine, InsertLine, RemoveLine, CleanupLine, QueryLine}
 use Rattle.ticket.specs.First.{MakeLine}
@@ -37,62 +38,64 @@ use Rattle.ticket.specs.First.{MakeLine}
 -- ---- make, whatever the state before it
 
 module _ {x : Settings} {a : MakeAnswer} {nodes dots : List ℕ} {rects : List ℤ} {marks : List ℕ} {nodes′ dots′ : List ℕ} {rects′ : List ℤ} {marks′ : List ℕ}
-    {next : ℕ} {bytes : List ℕ} where
+    {out₀ out : List ℕ} {next : ℕ} where
   pub make-refused : {k : ℕ} → a ≡ make.Refused k
       → ((before : State) → Make (world before nodes dots rects marks) x (world (makeState before a) nodes′ dots′ rects′ marks′) (makeReply a))
-      → bytes ≡ refusalLine k
-      → (before : State) → MakeLine (world before nodes dots rects marks) x (start.Ended next) (world before nodes′ dots′ rects′ marks′) bytes
+      → Written (output out₀ out next) (refusalLine k)
+      → (before : State) → MakeLine (world before nodes dots rects marks) x (start.Ended next) (world before nodes′ dots′ rects′ marks′)
+      (output out₀ out next)
   make-refused {k} e h l before = record { reply = refused k; call = rw e at (h before); goes = refl; line = l }
 
   pub made : {s : State} {depth : ℕ} → a ≡ make.Made s
       → ((before : State) → Make (world before nodes dots rects marks) x (world (makeState before a) nodes′ dots′ rects′ marks′) (makeReply a))
-      → depth ≡ D x → bytes ≡ answer 83 (depth ∷ [])
-      → (before : State) → MakeLine (world before nodes dots rects marks) x (start.Going s next) (world s nodes′ dots′ rects′ marks′) bytes
-  made e h d l before = record { reply = answered tt; call = rw e at (h before); goes = tt; line = l ∙ ap (λ (n : ℕ). answer 83 (n ∷ [])) d }
+      → depth ≡ D x → Written (output out₀ out next) (answer 83 (depth ∷ []))
+      → (before : State) → MakeLine (world before nodes dots rects marks) x (start.Going s next) (world s nodes′ dots′ rects′ marks′)
+      (output out₀ out next)
+  made e h d l before = record { reply = answered tt; call = rw e at (h before); goes = refl; line = subst (λ (n : ℕ). Written (output out₀ out next) (answer 83 (n ∷ []))) d l }
 
 -- ---- the calls that change the tree: w before the call, s its state
 
-module _ {w : World} {nodes dots : List ℕ} {rects : List ℤ} {marks : List ℕ} (s : State) {bytes : List ℕ} where
+module _ {w : World} {nodes dots : List ℕ} {rects : List ℤ} {marks : List ℕ} (s : State) {out : Output} where
   module _ {dot : Dot} {a : InsertAnswer} where
     pub insert-refused : {k : ℕ} → a ≡ insert.Refused k → Insert w dot (world (insertState s a) nodes dots rects marks) (insertReply a)
-        → bytes ≡ refusalLine k → InsertLine w dot (world s nodes dots rects marks) bytes
+        → Written out (refusalLine k) → InsertLine w dot (world s nodes dots rects marks) out
     insert-refused {k} e h l = record { reply = refused k; call = rw e at h; line = l }
 
     pub inserted : {n : ℕ} {s′ : State} → a ≡ insert.Splits n s′ → Insert w dot (world (insertState s a) nodes dots rects marks) (insertReply a)
-        → bytes ≡ answer 73 (dot .id ∷ n ∷ []) → InsertLine w dot (world s′ nodes dots rects marks) bytes
+        → Written out (answer 73 (dot .id ∷ n ∷ [])) → InsertLine w dot (world s′ nodes dots rects marks) out
     inserted {n} e h l = record { reply = answered n; call = rw e at h; line = l }
 
   module _ {dot : Dot} {a : RemoveAnswer} where
     pub remove-refused : {k : ℕ} → a ≡ remove.Refused k → Remove w (dot .id) (dot .rect) (world (removeState s a) nodes dots rects marks) (removeReply a)
-        → bytes ≡ refusalLine k → RemoveLine w dot (world s nodes dots rects marks) bytes
+        → Written out (refusalLine k) → RemoveLine w dot (world s nodes dots rects marks) out
     remove-refused {k} e h l = record { reply = refused k; call = rw e at h; line = l }
 
     pub removed : {s′ : State} → a ≡ remove.Yes s′ → Remove w (dot .id) (dot .rect) (world (removeState s a) nodes dots rects marks) (removeReply a)
-        → bytes ≡ answer 68 (dot .id ∷ 1 ∷ []) → RemoveLine w dot (world s′ nodes dots rects marks) bytes
+        → Written out (answer 68 (dot .id ∷ 1 ∷ [])) → RemoveLine w dot (world s′ nodes dots rects marks) out
     removed e h l = record { reply = answered true; call = rw e at h; line = l }
 
     pub not-removed : a ≡ remove.No → Remove w (dot .id) (dot .rect) (world (removeState s a) nodes dots rects marks) (removeReply a)
-        → bytes ≡ answer 68 (dot .id ∷ 0 ∷ []) → RemoveLine w dot (world s nodes dots rects marks) bytes
+        → Written out (answer 68 (dot .id ∷ 0 ∷ [])) → RemoveLine w dot (world s nodes dots rects marks) out
     not-removed e h l = record { reply = answered false; call = rw e at h; line = l }
 
   module _ {a : CleanupAnswer} where
     pub cleanup-refused : {k : ℕ} → a ≡ cleanup.Refused k → Cleanup w (world (cleanupState s a) nodes dots rects marks) (cleanupReply a)
-        → bytes ≡ refusalLine k → CleanupLine w (world s nodes dots rects marks) bytes
+        → Written out (refusalLine k) → CleanupLine w (world s nodes dots rects marks) out
     cleanup-refused {k} e h l = record { reply = refused k; call = rw e at h; line = l }
 
     pub cleaned : {yes? : Bool} {s′ : State} → a ≡ cleanup.Done yes? s′ → Cleanup w (world (cleanupState s a) nodes dots rects marks) (cleanupReply a)
-        → bytes ≡ answer 67 (yesNo yes? ∷ []) → CleanupLine w (world s′ nodes dots rects marks) bytes
+        → Written out (answer 67 (yesNo yes? ∷ [])) → CleanupLine w (world s′ nodes dots rects marks) out
     cleaned {yes?} e h l = record { reply = answered yes?; call = rw e at h; line = l }
 
 -- ---- query
 
-module _ {w w′ : World} {q : AABB} {row row′ bytes : List ℕ} {a : QueryAnswer} where
-  pub query-refused : {k : ℕ} → a ≡ query.Refused k → Query w q row w′ row′ (queryReply a) → bytes ≡ refusalLine k → QueryLine w q row w′ row′ bytes
+module _ {w w′ : World} {q : AABB} {row row′ : List ℕ} {out : Output} {a : QueryAnswer} where
+  pub query-refused : {k : ℕ} → a ≡ query.Refused k → Query w q row w′ row′ (queryReply a) → Written out (refusalLine k) → QueryLine w q row w′ row′ out
   query-refused {k} e h l = record { reply = refused k; call = rw e at h; line = l }
 
-  pub query-many : {n : ℕ} → a ≡ query.TooMany n → Query w q row w′ row′ (queryReply a) → bytes ≡ refusalLine 8 → QueryLine w q row w′ row′ bytes
+  pub query-many : {n : ℕ} → a ≡ query.TooMany n → Query w q row w′ row′ (queryReply a) → Written out (refusalLine 8) → QueryLine w q row w′ row′ out
   query-many {n} e h l = record { reply = tooMany n; call = rw e at h; line = l }
 
   pub listed : {found : Found} → a ≡ query.Listed found → Query w q row w′ row′ (queryReply a)
-      → bytes ≡ answer 81 (found .opened ∷ found .hits ∷ take (found .hits) row′) → QueryLine w q row w′ row′ bytes
+      → Written out (answer 81 (found .opened ∷ found .hits ∷ take (found .hits) row′)) → QueryLine w q row w′ row′ out
   listed {found} e h l = record { reply = answered found; call = rw e at h; line = l }
