@@ -49,10 +49,13 @@ pub record CleanupLine (w : World) (w′ : World) (out : Output) : Type 0 where
   pub line : Written out (replyLine (λ yes?. answer 67 (yesNo yes? ∷ [])) reply)
 
 -- §13.6: `Q,opened,hits` and the ids
+abbrev pub listing : List ℕ → Found → List ℕ
+listing row l = answer 81 (l .opened ∷ l .hits ∷ take (l .hits) row)
+
 pub record QueryLine (w : World) (r : AABB) (row : List ℕ) (w′ : World) (row′ : List ℕ) (out : Output) : Type 0 where
   pub reply : Reply Found
   pub call : Query w r row w′ row′ reply
-  pub line : Written out (replyLine (λ l. answer 81 (l .opened ∷ l .hits ∷ take (l .hits) row′)) reply)
+  pub line : Written out (replyLine (listing row′) reply)
 
 -- an unreadable line or a second `S`: refusal 9, and nothing is changed
 abbrev pub Nine : World → List ℕ → World → List ℕ → Output → Type 0

@@ -7,6 +7,7 @@
 --     fields-same                                       the fields of the same numbers
 --     take-beyond                                       a row, taken further than it goes
 --     written                                           an answer's line: its letter, its fields, its LF
+--     written-fixed                                     what is written fixes every byte of the row
 use mathlib.Core.Path.{_≡_, refl, ap, ap₂, sym, subst, _∙_}
 use mathlib.Core.List.{List, [], _∷_, _++_, map, append-assoc, append-nil}
 use Prim.Native.Nat.{ℕ, _+_, _-_, _*_, _/_, _%_, _<_, _≤_}
@@ -16,7 +17,7 @@ use lib.IntN.{ℤ, pos}
 use lib.ListN.{length, take, drop, getD, set, length-append, length-take, take-append-drop}
 use lib.Seq.{take-suc-set, take-suc, take-all, take-length, drop-set-lt, drop-drop}
 use Rattle.lines.specs.Text.{digits, decimal, fields, answer}
-use Rattle.lines.specs.Reading.{Put, output, Written}
+use Rattle.lines.specs.Reading.{Put, Output, output, Written}
 use Rattle.lines.specs.Laws.Digits.{digits-none, digits-few, digits-more, digits-length}
 use Rattle.lines.specs.Laws.Fields.{fields-append}
 
@@ -126,3 +127,10 @@ written {out″ = out″} {next = next} letter ns p q r =
       within = omega (arith, whole .ends, length-take next out″, ap length (whole .holds));
       holds = sym (take-append-drop next out″) ∙ ap₂ (λ (front rest : List ℕ). front ++ rest) (whole .holds) (whole .kept);
     }
+
+-- two rows that were one, with the same bytes written
+pub written-fixed : (o p : Output) (bytes : List ℕ) → o .before ≡ p .before → Written o bytes → Written p bytes → o ≡ p
+written-fixed o p bytes before v w =
+    let next : o .next ≡ p .next = v .ends ∙ sym (w .ends) in
+    let after : o .after ≡ p .after = v .holds ∙ ap₂ (λ (n : ℕ) (row : List ℕ). bytes ++ drop n row) next before ∙ sym (w .holds) in
+    λ i. record { before = before i; after = after i; next = next i }

@@ -1,7 +1,7 @@
 -- A memory has one shape at most; so the pattern of the calls fixes what each call leaves.
 --     one-chain, one-tree, one-free    what is read from a link, a node, a head is one chain, one tree, one list
 --     holds-one    two shapes of one world are equal
---     obeys-fixed  two exits of one call are equal
+--     obeys-fixed, make-fixed      two exits of one call are equal
 --     by-tree      a call on a tree: one shape tells what it leaves
 --     marks-cleared        the marks are 0 after each call not refused 1 or 2
 --     refused-untouched    a refused call leaves state, nodes, dots and answers untouched (§11.7)
@@ -23,8 +23,9 @@ use Rattle.model.specs.Shapes.{Shape, Valid, WellFormed}
 use Rattle.model.specs.Layout.{World, none, branchMark, blank, layout, cleared, lengthsRight, Holds}
 use Rattle.model.specs.Laws.Shapes.{below-no, live-and-free}
 use Rattle.model.specs.Memory.{Mem, memory, Chained, Represents, FreeGroups}
+use Rattle.geometry.specs.declared.settings.Settings.{Settings}
 use Rattle.geometry.specs.Settings.{inRange}
-use Rattle.model.specs.Calls.{Reply, refused, tooMany, refusal, Verdict, refuse, overflow, accept, Exit, exit, carriedOut, Obeys}
+use Rattle.model.specs.Calls.{Reply, refused, tooMany, refusal, Verdict, refuse, overflow, accept, Exit, exit, carriedOut, Obeys, Make}
 use Rattle.model.specs.Laws.Memory.{holds-represented}
 
 placed-equal : (d e : Placed) → d .place ≡ e .place → d .dot ≡ e .dot → d ≡ e
@@ -125,6 +126,19 @@ obeys-fixed fits rule w row e f tree? o p =
     tree?)
     (λ s. o .badSettings l s ∙ sym (p .badSettings l s)))
     (λ l. o .badLength l ∙ sym (p .badLength l))
+
+-- and two exits of one make
+pub make-fixed : (w : World) (s : Settings) (w₁ w₂ : World) (a b : Reply (Unit {0})) → Make w s w₁ a → Make w s w₂ b → (w₁ ≡ w₂) × (a ≡ b)
+make-fixed w s w₁ w₂ a b m n =
+    byBool (lengthsRight w)
+    (λ l.
+    byBool (inRange s)
+    (λ r. same (m .made l r) (n .made l r))
+    (λ r. same (m .badSettings l r) (n .badSettings l r)))
+    (λ l. same (m .badLength l) (n .badLength l))
+  where
+    same : {v : World} {c : Reply (Unit {0})} → (w₁ ≡ v) × (a ≡ c) → (w₂ ≡ v) × (b ≡ c) → (w₁ ≡ w₂) × (a ≡ b)
+    same p q = (p .0 ∙ sym (q .0), p .1 ∙ sym (q .1))
 
 -- a call on a tree: the shape that is found tells what it leaves
 module _ {B A : Type 0} (fits : Bool) (rule : Shape → Verdict B A) (w : World) (row : List B) (e : Exit B A) where

@@ -9,7 +9,6 @@ use mathlib.Core.List.{List, [], _∷_}
 use mathlib.Core.Bool.{Bool, true, false}
 use Prim.Native.Nat.{ℕ}
 use lib.IntN.{ℤ}
-use lib.ListN.{take}
 use Rattle.geometry.specs.declared.aabb.AABB.{AABB}
 use Rattle.geometry.specs.declared.settings.Settings.{Settings}
 use Rattle.geometry.specs.Settings.{D}
@@ -32,7 +31,7 @@ use Rattle.model.specs.Answers.{makeState, makeReply, insertReply, insertState,
 use Rattle.lines.specs.Text.{answer}
 use Rattle.lines.specs.Reading.{Output, output, Written}
 use Rattle.ticket.specs.declared.first.Start.the-variants as start
-use Rattle.ticket.specs.Ticket.{refusalLine, InsertLine, RemoveLine, CleanupLine, QueryLine}
+use Rattle.ticket.specs.Ticket.{refusalLine, listing, InsertLine, RemoveLine, CleanupLine, QueryLine}
 use Rattle.ticket.specs.First.{MakeLine}
 
 -- ---- make, whatever the state before it
@@ -97,5 +96,5 @@ module _ {w w′ : World} {q : AABB} {row row′ : List ℕ} {out : Output} {a :
   query-many {n} e h l = record { reply = tooMany n; call = rw e at h; line = l }
 
   pub listed : {found : Found} → a ≡ query.Listed found → Query w q row w′ row′ (queryReply a)
-      → Written out (answer 81 (found .opened ∷ found .hits ∷ take (found .hits) row′)) → QueryLine w q row w′ row′ out
+      → Written out (listing row′ found) → QueryLine w q row w′ row′ out
   listed {found} e h l = record { reply = answered found; call = rw e at h; line = l }
