@@ -1,13 +1,15 @@
--- The splits that an insert needs (§5.2), counted without a store.
+-- The splits that an insert needs (§5.2), counted without a store as far as there are free groups (§11.4).
 --     within       the dots within bounds
 --     SomeChain    what the count of a chain asks
---     Countable, Needed    what the count of the splits asks and tells
+--     Countable    what the count of the splits asks
+--     neededOf, SplitsTold what it tells
 use mathlib.Core.Path.{_≡_}
 use mathlib.Core.List.{List}
 use mathlib.Core.Bool.{true, cond}
 use Prim.Native.Nat.{ℕ, _≤_}
 use lib.IntN.{ℤ}
 use lib.ListN.{length}
+use lib.Dec.{leb}
 use Rattle.geometry.specs.declared.aabb.AABB.{AABB}
 use Rattle.geometry.specs.declared.bounds.Bounds.{Bounds}
 use Rattle.geometry.specs.declared.settings.Settings.{Settings}
@@ -22,6 +24,9 @@ use Rattle.model.specs.Trees.{Placed, leaf}
 use Rattle.model.specs.Laws.Insert.{splitCount}
 use Rattle.memory.specs.declared.node.Node.{Node}
 use Rattle.tree.specs.Chains.{ChainStands}
+use Rattle.tree_insert.specs.declared.needed.Needed.{Needed}
+use Rattle.tree_insert.specs.declared.needed.Needed.the-variants.{Splits, TooMany}
+use Rattle.tree_insert.specs.FreeGroups.{FreeIn}
 
 abbrev pub within : Bounds → Placed → ℕ
 within b d = cond (inBounds b (d .dot .rect)) 1 0
@@ -38,7 +43,12 @@ pub record Countable (s : Settings) (dots : List ℕ) (rects : List ℤ) (node :
   pub dotsFit : All (λ d. acceptableDot s (d .dot) ≡ true) chain
   pub counted : node .count ≡ length chain
 
--- the splits of every leaf with that chain
-abbrev pub Needed : Settings → List ℕ → List ℤ → Node → NodeData → AABB → ℕ → Type 0
-Needed s dots rects node n r splits =
-    (k : Countable s dots rects node n) (levels : ℕ) → levelsLeft s n ≤ levels → splits ≡ splitCount s levels n r (leaf (k .chain))
+-- so many splits, or too many for so many groups
+abbrev pub neededOf : ℕ → ℕ → Needed
+neededOf splits groups = cond (leb splits groups) (Splits splits) TooMany
+
+-- the splits of every leaf with that chain, beside every list of free groups from that head
+abbrev pub SplitsTold : Settings → List ℕ → List ℕ → List ℤ → Node → NodeData → AABB → ℕ → Needed → Type 0
+SplitsTold s nodes dots rects node n r head needed =
+    (k : Countable s dots rects node n) (levels : ℕ) → levelsLeft s n ≤ levels → (free : List ℕ) → FreeIn nodes head free
+    → needed ≡ neededOf (splitCount s levels n r (leaf (k .chain))) (length free)

@@ -14,7 +14,7 @@ ghost use Rattle.tree_insert.specs.InsertAt.{Starts, CanInsert};
 mod needed;
 mod split;
 
-use crate::needed::has_free;
+use crate::needed::Needed;
 use crate::needed::splits_needed;
 use crate::split::push_place;
 use crate::split::split_down;
@@ -94,10 +94,10 @@ pub fn insert_dot(
     }
     let leaf = find_leaf(settings, nodes, rect);
     let chain = node_at(nodes, leaf.node);
-    let splits = splits_needed(settings, dots, rects, chain, leaf.node_data, rect);
-    if !has_free(nodes, state.free_group, splits) {
+    let needed = splits_needed(state, nodes, dots, rects, chain, leaf.node_data, rect);
+    let Needed::Splits(splits) = needed else {
         return InsertAnswer::Refused(7);
-    }
+    };
     InsertAnswer::Splits(
         splits,
         insert_at(state, nodes, dots, rects, dot, leaf, splits),

@@ -1,16 +1,14 @@
-// What an insert needs before it stores anything: the splits, and free groups for them.
+// What an insert needs before it stores anything: the splits, with a free group for each.
 ghost use mathlib.Core.Path.{_≡_};
 ghost use mathlib.Core.Bool.{_&&_};
 ghost use mathlib.Core.List.{List};
-ghost use Prim.Native.Nat.{ℕ};
 ghost use lib.Dec.{leb};
-ghost use lib.ListN.{length};
 ghost use Rattle.geometry.specs.Cells.{maySplit};
 ghost use Rattle.model.specs.Sums.{sumOver};
 ghost use Rattle.model.specs.Trees.{Placed};
 ghost use Rattle.tree.specs.Chains.{ChainStands};
-ghost use Rattle.tree_insert.specs.FreeGroups.{FreeIn, SomeFree};
-ghost use Rattle.tree_insert.specs.SplitsNeeded.{within, SomeChain, Countable, Needed};
+ghost use Rattle.tree_insert.specs.FreeGroups.{SomeFree};
+ghost use Rattle.tree_insert.specs.SplitsNeeded.{within, SomeChain, Countable, SplitsTold};
 use geometry::aabb::AABB;
 use geometry::bounds::Bounds;
 use geometry::node_data::NodeData;
@@ -19,23 +17,7 @@ use memory::node::Node;
 use memory::node::node_at;
 use memory::places::next_at;
 use memory::places::rect_at;
-
-// Whether the free groups from a head on are at least so many; walks no further.
-pub fn has_free(nodes: &[u32], head: u32, wanted: u32) -> bool
-    requires { ⌜ SomeFree (now nodes) head ⌝ }
-    ensures { λ r. ⌜ ((free : List ℕ) → FreeIn (now (nodes .entry)) head free → r ≡ leb wanted (length free)) ⌝ }
-{
-    let mut at = head;
-    let mut left = wanted;
-    while left > 0 {
-        if at == Node::NONE {
-            return false;
-        }
-        at = node_at(nodes, at as usize).first;
-        left -= 1;
-    }
-    true
-}
+use model::State;
 
 // Whether a leaf with so many dots is full and may split.
 pub fn must_split(settings: Settings, node_data: NodeData, count: u32) -> bool
@@ -66,24 +48,38 @@ fn count_within(dots: &[u32], rects: &[i32], chain: Node, bounds: Bounds) -> u32
     count
 }
 
-// The splits that the insert of a rectangle at a leaf makes with groups enough.
+// What an insert needs: so many splits, or too many for the free groups.
+pub enum Needed {
+    Splits(u32),
+    TooMany,
+}
+
+// The splits that the insert of a rectangle at a leaf makes with groups enough; where a split finds no free group, no more are counted.
 // A dot stays on the way as long as it lies within the bounds of the node reached.
 pub fn splits_needed(
-    settings: Settings,
+    state: State,
+    nodes: &[u32],
     dots: &[u32],
     rects: &[i32],
     chain: Node,
     node_data: NodeData,
     rect: AABB,
-) -> u32
-    requires { ⌜ Countable settings (now dots) (now rects) chain «node_data» ⌝ }
-    ensures { λ r. ⌜ Needed settings (now (dots .entry)) (now (rects .entry)) chain «node_data» rect r ⌝ }
+) -> Needed
+    requires { ⌜ Countable (state .settings) (now dots) (now rects) chain «node_data» × SomeFree (now nodes) (state .«free_group») ⌝ }
+    ensures { λ r. ⌜ SplitsTold (state .settings) (now (nodes .entry)) (now (dots .entry)) (now (rects .entry)) chain «node_data» rect
+        (state .«free_group») r ⌝ }
 {
+    let settings = state.settings;
+    let mut group = state.free_group;
     let mut reached = node_data;
     let mut bounds = Bounds::all();
     let mut count = chain.count;
     let mut splits: u32 = 0;
     while must_split(settings, reached, count) {
+        if group == Node::NONE {
+            return Needed::TooMany;
+        }
+        group = node_at(nodes, group as usize).first;
         let cell = reached.cell;
         let child = cell.route(rect);
         bounds = bounds.below(cell, child);
@@ -91,5 +87,5 @@ pub fn splits_needed(
         count = count_within(dots, rects, chain, bounds);
         splits += 1;
     }
-    splits
+    Needed::Splits(splits)
 }

@@ -1,18 +1,15 @@
 -- An insert at the leaf that its dot routes to: what the code has found there, and the insert on its way.
 --     Arrived, arrive      the insert of the whole tree, told by the leaf
---     countable    the splits can be counted there
---     needed-is    what is counted is the splits needed
---     listed-free, enough-is       the free groups can be walked along, and are told to be enough
+--     listed-free, countable       the free groups can be walked along, and the splits counted there
+--     needed-is    what is told is the splits needed, or that they are too many for the free groups
 --     inserting-start      the insert is on its way
 use mathlib.Core.Path.{_≡_, refl, ap, sym, _∙_, subst}
 use mathlib.Core.List.{List}
-use mathlib.Core.Bool.{Bool}
 use Prim.Native.Nat.{ℕ, zero, suc, _≤_}
 use native.Mathlib.Omega.{arith}
 use native.Mathlib.Decide.{decLt}
 use lib.IntN.{ℤ}
 use lib.ListN.{length}
-use lib.Dec.{leb}
 use Rattle.geometry.specs.declared.aabb.AABB.{AABB}
 use Rattle.geometry.specs.declared.settings.Settings.{Settings}
 use Rattle.geometry.specs.declared.node_data.NodeData.{NodeData}
@@ -42,9 +39,10 @@ use Rattle.tree.specs.Paths.{put}
 use Rattle.tree.specs.declared.find.Leaf.{Leaf}
 use Rattle.tree.specs.Laws.Stored.{holds-stored}
 use Rattle.tree.specs.Laws.Leaves.{here-sum, here-count, here-stands, leads-leaf}
+use Rattle.tree_insert.specs.declared.needed.Needed.{Needed}
 use Rattle.tree_insert.specs.FreeGroups.{FreeIn, SomeFree}
 use Rattle.tree_insert.specs.Laws.FreeGroups.{groups-free}
-use Rattle.tree_insert.specs.SplitsNeeded.{Countable, Needed}
+use Rattle.tree_insert.specs.SplitsNeeded.{Countable, neededOf, SplitsTold}
 use Rattle.tree_insert.specs.SplitDown.{Ended, ended, Inserting}
 
 -- ---- the leaf on the tree
@@ -115,6 +113,16 @@ module _ {s : State} {nodes dots : List ℕ} {rects : List ℤ} {marks : List �
   short : length chain₀ ≤ 65536
   short = omega (arith, here-sum h (dot .rect) (λ d. 1), sumOver-one chain₀, live-and-free x (h .valid), h .valid .placesFit)
 
+  -- the free groups
+  groups-listed : FreeIn nodes (s .«free_group») (x .freeGroups)
+  groups-listed =
+      let rep = holds-represented w₀ x h in
+      groups-free (x .groups) nodes (memory w₀) refl (rep .nodes) (h .valid .groupsFit) (s .«free_group») (x .freeGroups)
+      (λ g c. byDec (decLt g (x .groups)) (λ b. b) (λ b. absurd (omega (arith, h .valid .groupsOnce g, below-no g (x .groups) (omega arith))))) (rep .groups)
+
+  pub listed-free : SomeFree nodes (s .«free_group»)
+  listed-free = record { free = x .freeGroups; listed = groups-listed }
+
   -- the count of its splits
   module _ {node : Node} (words : node ≡ nodeAt nodes (l .node)) where
     counted : (k : Countable (x .settings) dots rects (nodeAt nodes (l₀ .node)) (l₀ .«node_data»)) × (k .chain ≡ chain₀)
@@ -140,28 +148,16 @@ module _ {s : State} {nodes dots : List ℕ} {rects : List ℤ} {marks : List �
     pub countable : Countable (s .settings) dots rects node (l .«node_data»)
     countable = here-counted .0
 
-    pub needed-is : {splits : ℕ} → Needed (s .settings) dots rects node (l .«node_data») (dot .rect) splits → splits ≡ splitsNeeded dot x
-    needed-is needs =
+    pub needed-is : {needed : Needed} → SplitsTold (s .settings) nodes dots rects node (l .«node_data») (dot .rect) (s .«free_group») needed
+        → needed ≡ neededOf (splitsNeeded dot x) (length (x .freeGroups))
+    needed-is told =
         let e = holds-settings w₀ x h in
         let a = arrived in
-        needs (here-counted .0) (a .left)
+        told (here-counted .0) (a .left)
         (subst (λ (y : Leaf). levelsLeft (s .settings) (y .«node_data») ≤ a .left) (sym at-leaf)
-        (subst (λ (y : Settings). levelsLeft y (l₀ .«node_data») ≤ a .left) (sym e) (a .high)))
-        ∙ (λ i. splitCount (e i) (a .left) (at-leaf i .«node_data») (dot .rect) (leaf (here-counted .1 i))) ∙ sym (a .counts) ∙ sym (needed-count dot x)
-
-  -- the free groups
-  groups-listed : FreeIn nodes (s .«free_group») (x .freeGroups)
-  groups-listed =
-      let rep = holds-represented w₀ x h in
-      groups-free (x .groups) nodes (memory w₀) refl (rep .nodes) (h .valid .groupsFit) (s .«free_group») (x .freeGroups)
-      (λ g c. byDec (decLt g (x .groups)) (λ b. b) (λ b. absurd (omega (arith, h .valid .groupsOnce g, below-no g (x .groups) (omega arith))))) (rep .groups)
-
-  pub listed-free : SomeFree nodes (s .«free_group»)
-  listed-free = record { free = x .freeGroups; listed = groups-listed }
-
-  pub enough-is : (splits : ℕ) {told : Bool} → ((free : List ℕ) → FreeIn nodes (s .«free_group») free → told ≡ leb splits (length free))
-      → told ≡ leb splits (length (x .freeGroups))
-  enough-is splits tells = tells (x .freeGroups) groups-listed
+        (subst (λ (y : Settings). levelsLeft y (l₀ .«node_data») ≤ a .left) (sym e) (a .high))) (x .freeGroups) groups-listed
+        ∙ ap (λ (k : ℕ). neededOf k (length (x .freeGroups)))
+        ((λ i. splitCount (e i) (a .left) (at-leaf i .«node_data») (dot .rect) (leaf (here-counted .1 i))) ∙ sym (a .counts) ∙ sym (needed-count dot x))
 
   pub inserting-start : {splits : ℕ} → splits ≡ splitsNeeded dot x → splits ≤ length (x .freeGroups)
       → Inserting x dot (s .«free_place») nodes dots rects (s .«free_group») (l .node) (l .«node_data») splits
