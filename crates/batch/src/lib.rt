@@ -4,7 +4,7 @@ ghost use Prim.Native.Nat.{_<_};
 ghost use lib.ListN.{length, getD};
 ghost use Rattle.model.specs.Layout.{world};
 ghost use Rattle.model.specs.Calls.{Batch};
-ghost use Rattle.batch.specs.Answers.{noRecord, batchReply};
+ghost use Rattle.batch.specs.Answers.{noRecord, batchReply, carriedOutBy};
 use batch_step::Batched;
 use batch_step::begin;
 use batch_step::one;
@@ -31,7 +31,7 @@ pub fn batch(
 ) -> Batched
     ensures { λ r. ⌜ Batch (world state (now (nodes .entry)) (now (dots .entry)) (now (rects .entry)) (now (marks .entry))) (now (rows .entry))
         (now (answers .entry)) (world (r .state) (now (nodes .exit)) (now (dots .exit)) (now (rects .exit)) (now (marks .exit)))
-        (now (answers .exit)) (batchReply r) ⌝ }
+        (now (answers .exit)) (batchReply r) × (r .count ≡ carriedOutBy (now (rows .entry)) (r .refusal)) ⌝ }
 {
     let mut batched = begin(rows.len(), answers.len(), state, nodes, dots, rects, marks);
     let count = batched.count;

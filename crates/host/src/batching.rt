@@ -5,7 +5,7 @@ ghost use Prim.Native.Nat.{_+_, _*_, _<_};
 ghost use lib.ListN.{length};
 ghost use Rattle.model.specs.Layout.{world};
 ghost use Rattle.model.specs.Calls.{Batch};
-ghost use Rattle.batch.specs.Answers.{batchReply};
+ghost use Rattle.batch.specs.Answers.{batchReply, carriedOutBy};
 ghost use Rattle.host.specs.Records.{recordIn, recordsIn, batchFits};
 ghost use Rattle.host.specs.Exports.{lent, Batches};
 use crate::rows::signed;
@@ -56,7 +56,8 @@ fn carry_out_all(
 ) -> Batched
     ensures { λ r. ⌜ Batch (world state (now (nodes .entry)) (now (dots .entry)) (now (rects .entry)) (now (marks .entry)))
         (recordsIn (now (records .entry))) (now (answers .entry))
-        (world (r .state) (now (nodes .exit)) (now (dots .exit)) (now (rects .exit)) (now (marks .exit))) (now (answers .exit)) (batchReply r) ⌝ }
+        (world (r .state) (now (nodes .exit)) (now (dots .exit)) (now (rects .exit)) (now (marks .exit))) (now (answers .exit)) (batchReply r)
+        × (r .count ≡ carriedOutBy (recordsIn (now (records .entry))) (r .refusal)) ⌝ }
 {
     let many = records.len() / 6;
     let mut batched = begin(many, answers.len(), state, nodes, dots, rects, marks);

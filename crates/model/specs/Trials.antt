@@ -26,7 +26,7 @@ use Rattle.model.specs.Calls.{removeRule, cleanupRule, queryRule, allRul
 use Rattle.arithmetic.specs.Ints.{maxZ, minZ}
 
 -- §14.1: the root and the limits, with a leaf limit
-abbrev settings : ℕ → Settings
+abbrev pub settings : ℕ → Settings
 settings leafLimit =
     record {
       left = pos 0;
@@ -49,7 +49,7 @@ places = 8
 abbrev room : ℕ
 room = 24
 
-abbrev rect : ℕ → ℕ → ℕ → ℕ → AABB
+abbrev pub rect : ℕ → ℕ → ℕ → ℕ → AABB
 rect x1 y1 x2 y2 = record { x1 = pos x1; y1 = pos y1; x2 = pos x2; y2 = pos y2 }
 
 -- an answer is the word that the batch writes (§10.4)

@@ -75,7 +75,7 @@ use Rattle.batch_step.proofs.begin as begin
 use Rattle.batch_step.proofs.begin.Symbol as begin-def
 use Rattle.batch_step.proofs.begin.Symbol.{name as #batch-step·begin}
 use Rattle.batch_step.proofs.begin.Met as begin-thm
-use Rattle.batch.specs.Answers.{noRecord, batchReply}
+use Rattle.batch.specs.Answers.{noRecord, batchReply, carriedOutBy}
 use Rattle.batch.specs.Runs.{Words, words, Progress}
 use Rattle.batch.specs.Laws.Runs.{progress-begun, progress-ready, progress-step, progress-done}
 use Rattle.batch.proofs.Locals.{alloc-all}
@@ -217,6 +217,7 @@ module _ {M : Type 1} (𝓤 : URA M) (H : Heap 𝓤) (A : Atoms 𝓤) (W : Given
   abbrev Final : Words → Type 0
   Final w = Batch (world st (xn .now) (xd .now) (xr .now) (xm .now)) ys (xa .now)
       (world (w .batched .state) (w .nodes) (w .dots) (w .rects) (w .marks)) (w .answers) (batchReply (w .batched))
+      × (w .batched .count ≡ carriedOutBy ys (w .batched .refusal))
 
   -- what `one` asks at place i
   abbrev Ready : ℕ → Words → Type 0

@@ -26,7 +26,7 @@ use Rattle.tree.specs.Operations.{IsTree}
 use Rattle.calls.specs.Laws.Pattern.{checked-tree}
 use Rattle.batch_step.specs.declared.Batched.{Batched}
 use Rattle.batch_step.specs.Steps.{Stepped, Begun}
-use Rattle.batch.specs.Answers.{noRecord, batchReply}
+use Rattle.batch.specs.Answers.{noRecord, batchReply, carriedOutBy}
 use Rattle.batch.specs.Runs.{Words, words, Progress}
 
 -- ---- rows
@@ -141,11 +141,11 @@ module _ (rs : List Record) (s : State) (answers nodes dots : List ℕ) (rects :
         a .1 ∙ (λ j. batchWords (all j) x ++ drop (sym n j) answers) in
         rw (eq-eqb (w .batched .refusal) 0 z) (λ j. exit (words j) (row j) (answered tt))
 
-    pub progress-done : i ≡ w .batched .count
+    batch-done : i ≡ w .batched .count
         → Batch (world s nodes dots rects marks) rs answers (world (w .batched .state) (w .nodes) (w .dots) (w .rects) (w .marks))
         (w .answers) (batchReply (w .batched))
     unfolding Batch
-    progress-done e =
+    batch-done e =
         let w₀ = world s nodes dots rects marks in
         let out = exit (world (w .batched .state) (w .nodes) (w .dots) (w .rects) (w .marks)) (w .answers) (batchReply (w .batched)) in
         byBool (eqb (length rs) (length answers))
@@ -165,3 +165,14 @@ module _ (rs : List Record) (s : State) (answers nodes dots : List ℕ) (rects :
           noTree = λ l v n. absurd (no-two (lengthsRight w₀) l);
           tree = λ l v x h. absurd (no-two (lengthsRight w₀) l);
         }))
+
+    count-done : w .batched .count ≡ carriedOutBy rs (w .batched .refusal)
+    count-done =
+        byBool (eqb (w .batched .refusal) 0)
+        (λ e. rw e (p .accepted (eqb-true _ _ e)))
+        (λ e. rw e (p .refused (λ z. true-false (sym (eq-eqb _ _ z) ∙ e))))
+
+    pub progress-done : i ≡ w .batched .count
+        → Batch (world s nodes dots rects marks) rs answers (world (w .batched .state) (w .nodes) (w .dots) (w .rects) (w .marks))
+        (w .answers) (batchReply (w .batched)) × (w .batched .count ≡ carriedOutBy rs (w .batched .refusal))
+    progress-done e = (batch-done e, count-done)

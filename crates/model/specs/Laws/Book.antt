@@ -1,6 +1,6 @@
 -- Laws of the book: how often a dot stands in it, as sums of weights.
 --     without-sum, but-tree        what a remove that says yes does to every weight
---     count-live, dead-count, has-dot, has-hit, hit-has    from counts to `Live` and `Has`, and back
+--     count-live, live-count, dead-count, has-dot, has-hit, hit-has    from counts to `Live` and `Has`, and back
 --     Told, book-told      the book is told arguments, accepted and yes alone (§12.4): nothing else of an event makes a difference
 use mathlib.Core.Path.{_≡_, refl, ap, sym, _∙_}
 use mathlib.Core.Logic.{inl, inr, ⊎-elim}
@@ -69,6 +69,9 @@ count-live k (d ∷ ds) c =
     byDec (ℕ-discrete k (d .id))
     (λ e. (d, inl refl, sym e))
     (λ ne. let l = count-live k ds (omega (arith, indicator-other k (d .id) ne)) in (l .0, inr (l .1), l .2))
+
+pub live-count : (k : ℕ) (b : List Dot) → Live k b → 1 ≤ sumOver (idIs k) b
+live-count k b live = has-sum (idIs k) (live .0) b (ap (indicator k) (live .2) ∙ indicator-same k) (live .1)
 
 pub dead-count : (k : ℕ) (b : List Dot) → ¬ Live k b → sumOver (idIs k) b ≡ 0
 dead-count k b n = byDec (decLe 1 (sumOver (idIs k) b)) (λ h. absurd (n (count-live k b h))) (λ h. omega arith)

@@ -1,7 +1,8 @@
 -- Runs: from a world that is a tree each call has an outcome and leaves a tree.
 --     made-holds   an accepted make leaves a tree, the fresh one
 --     Call, callOf         a call's arguments; those of an event
---     runs         every list of calls has a run, whatever the arguments: so Demand3 speaks of every list
+--     eventOn, shapeOn, eventsOn   what a call, a list of calls, makes of a shape by the calls' rules
+--     runs, events-calls   every list of calls has a run, whatever the arguments: so Demand3 speaks of every list
 --     run-late     in a run from a tree no call is refused 1, 2 or 3
 use mathlib.Core.Path.{_≡_, refl, ap, ap₂, sym, _∙_, subst}
 use mathlib.Core.Logic.{_⊎_, inl, inr, ⊎-elim}
@@ -22,7 +23,7 @@ use Rattle.model.specs.declared.Dot.{Dot}
 use Rattle.model.specs.Shapes.{Shape, fresh, inserted, splitsMade, splitsNeeded, removed, foundBy, cleaned, cleans, listed, opensFor}
 use Rattle.model.specs.Layout.{World, groupsOf, placesOf, lengthsRight, layout, cleared, Holds}
 use Rattle.model.specs.declared.answers.Found.{Found}
-use Rattle.model.specs.Calls.{Reply, refused, tooMany, answered, refusal, Verdict, refuse, overflow, accept, carriedOut, Obeys}
+use Rattle.model.specs.Calls.{Reply, refused, tooMany, answered, refusal, Verdict, refuse, overflow, accept, carriedOut, Obeys, recorded, yesNo}
 use Rattle.model.specs.Calls.{insertRule, removeRule, cleanupRule, queryRule, Make, Insert, Remove, Cleanup, Query}
 use Rattle.model.specs.Book.{Event, insert, remove, cleanup, query, Happens, Run, accepted}
 use Rattle.model.specs.Laws.Shapes.{fresh-valid}
@@ -62,46 +63,63 @@ on-tree rule w row x h v p =
     by-tree true rule w row (carriedOut w row v) (rw (holds-lengths w x h) refl) (ap inRange (holds-settings w x h) ∙ h .valid .settingsFit) x h
     (ap (carriedOut w row) (sym p))
 
--- an event of the call, and the shape that it leaves
-abbrev Next : World → Call → Type 0
-Next w c = (e : Event) × (v : World) × (y : Shape) × Happens w e v × Holds v y × (callOf e ≡ c)
+-- the event of a call on a tree, and the shape after it, by the call's rule. Reply and row are the same from any world: `layout x` stands for it.
+abbrev pub eventOn : Shape → Call → Event
+eventOn x (toInsert dot) = insert dot (carriedOut (layout x) [] (insertRule dot x) .reply)
+eventOn x (toRemove id r) = remove id r (carriedOut (layout x) [] (removeRule id r x) .reply)
+eventOn x toCleanUp = cleanup (carriedOut (layout x) [] (cleanupRule x) .reply)
+eventOn x (toQuery q row) = let e = carriedOut (layout x) row (queryRule q (length row) x) in query q row (e .row) (e .reply)
+
+abbrev pub shapeOn : Shape → Call → Shape
+shapeOn x (toInsert dot) = recorded (λ splits. splits) x (insertRule dot x) .shape
+shapeOn x (toRemove id r) = recorded yesNo x (removeRule id r x) .shape
+shapeOn x toCleanUp = recorded yesNo x (cleanupRule x) .shape
+shapeOn x (toQuery q row) = x
+
+abbrev pub eventsOn : Shape → List Call → List Event
+eventsOn x [] = []
+eventsOn x (c ∷ cs) = eventOn x c ∷ eventsOn (shapeOn x c) cs
+
+-- an event that happens, and the shape that it leaves
+abbrev Next : World → Event → Shape → Type 0
+Next w e y = (v : World) × Happens w e v × Holds v y
 
 module _ (w : World) (x : Shape) (h : Holds w x) where
-  next-insert : (dot : Dot) → Next w (toInsert dot)
+  next-insert : (dot : Dot) → Next w (eventOn x (toInsert dot)) (recorded (λ splits. splits) x (insertRule dot x) .shape)
   unfolding Insert
   next-insert dot =
       ⊎-elim
       (λ k.
       let call : Insert w dot (cleared w) (refused (k .0)) = on-tree (insertRule dot) w [] x h (refuse (k .0)) (k .1) in
-      (insert dot (refused (k .0)), cleared w, x, call, insert-refused w dot (cleared w) (refused (k .0)) call x h (k .0) (k .1) .0, refl))
+      rw (k .1) (cleared w, call, insert-refused w dot (cleared w) (refused (k .0)) call x h (k .0) (k .1) .0))
       (λ g.
       let y = inserted dot x in
       let n = splitsMade dot x in
       let call : Insert w dot (layout y) (answered n) = on-tree (insertRule dot) w [] x h (accept y [] n) (g .3) in
-      (insert dot (answered n), layout y, y, call, insert-accepted w dot (layout y) (answered n) call x h g .0, refl))
+      rw (g .3) (layout y, call, insert-accepted w dot (layout y) (answered n) call x h g .0))
       (insert-cases dot x (h .valid))
 
-  next-remove : (id : ℕ) (r : AABB) → Next w (toRemove id r)
+  next-remove : (id : ℕ) (r : AABB) → Next w (eventOn x (toRemove id r)) (recorded yesNo x (removeRule id r x) .shape)
   unfolding Remove removeRule
   next-remove id r =
       byBool (foundBy id r x)
       (λ e.
       let y = removed id r x in
       let call : Remove w id r (layout y) (answered true) = on-tree (removeRule id r) w [] x h (accept y [] true) (rw e refl) in
-      (remove id r (answered true), layout y, y, call, remove-yes w id r (layout y) (answered true) call x h e .0, refl))
+      rw e (layout y, call, remove-yes w id r (layout y) (answered true) call x h e .0))
       (λ e.
       let call : Remove w id r (layout x) (answered false) = on-tree (removeRule id r) w [] x h (accept x [] false) (rw e refl) in
-      (remove id r (answered false), layout x, x, call, remove-no w id r (layout x) (answered false) call x h e .0, refl))
+      rw e (layout x, call, remove-no w id r (layout x) (answered false) call x h e .0))
 
-  next-cleanup : Next w toCleanUp
+  next-cleanup : Next w (eventOn x toCleanUp) (shapeOn x toCleanUp)
   unfolding Cleanup cleanupRule
   next-cleanup =
       let y = cleaned x in
       let a = answered (cleans x) in
       let call : Cleanup w (layout y) a = on-tree cleanupRule w [] x h (accept y [] (cleans x)) refl in
-      (cleanup a, layout y, y, call, cleanup-done w (layout y) a call x h .0, refl)
+      (layout y, call, cleanup-done w (layout y) a call x h .0)
 
-  next-query : (q : AABB) (row : List ℕ) → Next w (toQuery q row)
+  next-query : (q : AABB) (row : List ℕ) → Next w (eventOn x (toQuery q row)) x
   unfolding Query queryRule
   next-query q row =
       let found = listed q x in
@@ -109,25 +127,36 @@ module _ (w : World) (x : Shape) (h : Holds w x) where
       (λ e.
       let a = tooMany (length found) in
       let call : Query w q row (cleared w) row a = on-tree (queryRule q (length row)) w row x h (overflow (length found)) (rw e refl) in
-      (query q row row a, cleared w, x, call, query-holds w q row (cleared w) row a call x h, refl))
+      rw e (cleared w, call, query-holds w q row (cleared w) row a call x h))
       (λ e.
       let l : Found = record { hits = length found; opened = opensFor q x } in
       let row′ = found ++ drop (length found) row in
       let call : Query w q row (layout x) row′ (answered l) = on-tree (queryRule q (length row)) w row x h (accept x found l) (rw e refl) in
-      (query q row row′ (answered l), layout x, x, call, query-holds w q row (layout x) row′ (answered l) call x h, refl))
+      rw e (layout x, call, query-holds w q row (layout x) row′ (answered l) call x h))
 
-  next : (c : Call) → Next w c
+  next : (c : Call) → Next w (eventOn x c) (shapeOn x c)
   next (toInsert dot) = next-insert dot
   next (toRemove id r) = next-remove id r
   next toCleanUp = next-cleanup
   next (toQuery q row) = next-query q row
 
-pub runs : (w : World) (x : Shape) → Holds w x → (cs : List Call) → (es : List Event) × (v : World) × Run w es v × (map callOf es ≡ cs)
-runs w x h [] = ([], w, refl, refl)
+pub runs : (w : World) (x : Shape) → Holds w x → (cs : List Call) → (v : World) × Run w (eventsOn x cs) v
+runs w x h [] = (w, refl)
 runs w x h (c ∷ cs) =
     let n = next w x h c in
-    let r = runs (n .1) (n .2) (n .4) cs in
-    (n .0 ∷ r .0, r .1, (n .1, n .3, r .2), ap₂ (λ (d : Call) (ds : List Call). d ∷ ds) (n .5) (r .3))
+    let r = runs (n .0) (shapeOn x c) (n .2) cs in
+    (r .0, (n .0, n .1, r .1))
+
+-- the events are of those calls, in order
+event-call : (x : Shape) (c : Call) → callOf (eventOn x c) ≡ c
+event-call x (toInsert dot) = refl
+event-call x (toRemove id r) = refl
+event-call x toCleanUp = refl
+event-call x (toQuery q row) = refl
+
+pub events-calls : (x : Shape) (cs : List Call) → map callOf (eventsOn x cs) ≡ cs
+events-calls x [] = refl
+events-calls x (c ∷ cs) = ap₂ (λ (d : Call) (ds : List Call). d ∷ ds) (event-call x c) (events-calls (shapeOn x c) cs)
 
 -- ---- refusals in a run
 

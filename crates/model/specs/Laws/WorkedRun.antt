@@ -1,0 +1,157 @@
+-- A worked run: one list of calls of every kind, in a lent memory of two groups and three places, and what Demand3 says of it.
+--     made         the fresh tree that it starts from
+--     events       THE LIST, with the replies
+--     happens      it happens: the rules, computed from the fresh tree, give these replies
+--     distinct     it meets §12.6
+--     promised     by Demand3: its book is the one dot that is live
+-- From `promised` alone, of whatever is called next and whatever it leaves:
+--     lists-three      a query lists the live id (§12.7)
+--     removes-three    its remove by its rectangle says yes (§12.8)
+--     one-is-gone      a remove of an id that was removed says no (§12.9)
+--     third-says-no    D is 2: a cleanup that two came before says no (§12.10)
+--     opens-few        where a cleanup has said no, a query opens at most 11 nodes (§12.11)
+use mathlib.Core.Path.{_≡_, refl, ap, sym, _∙_, subst}
+use mathlib.Core.Logic.{inl, ⊎-elim}
+use mathlib.Core.List.{List, [], _∷_, map}
+use mathlib.Core.Bool.{Bool, true, false}
+use Prim.Native.Nat.{ℕ, _≤_}
+use native.Mathlib.Omega.{arith}
+use lib.IntN.{pos}
+use lib.ListN.{length, take, replicate}
+use Rattle.arithmetic.specs.Ints.{maxZ, minZ}
+use Rattle.arithmetic.specs.Laws.Tests.{true-false}
+use Rattle.geometry.specs.declared.aabb.AABB.{AABB}
+use Rattle.geometry.specs.Rectangles.{flat, intersects, middle, within, inverted, near, farOut}
+use Rattle.geometry.specs.Settings.{axisFits, rootFits, inRange, W, bitsWithin, bitLength, halvings, D, contains}
+use Rattle.geometry.specs.Cells.{routeCell, mayDivide, rootCell, rootData, childCentre, quarterCell, childCell, childData, quadrant, bothTests, opens}
+use Rattle.model.specs.Sums.{indicator, changed, sumOver}
+use Rattle.model.specs.Lists.{count}
+use Rattle.model.specs.declared.Dot.{Dot}
+use Rattle.model.specs.declared.answers.Found.{Found}
+use Rattle.model.specs.Dots.{isHit, matches}
+use Rattle.model.specs.Shapes.{fresh, inserted, splitsMade, splitsNeeded, removed, foundBy, cleaned, cleans, listed, opensFor}
+use Rattle.model.specs.Layout.{World, lengthsRight, layout}
+use Rattle.model.specs.Calls.{Reply, refused, answered, insertRule, removeRule, cleanupRule, queryRule, Make, Remove, Cleanup, Query}
+use Rattle.model.specs.Book.{Event, insert, remove, cleanup, query, Run, Live, Distinct, Exactly, Promise, Demand3}
+use Rattle.model.specs.Trials.{settings, rect}
+use Rattle.model.specs.Laws.Sums.{indicator-same}
+use Rattle.model.specs.Laws.Book.{live-count}
+use Rattle.model.specs.Laws.Dots.{idIs}
+use Rattle.model.specs.Laws.Runs.{made-holds, callOf, eventsOn, runs}
+use Rattle.model.specs.Laws.Demand.{demand-3}
+
+-- ---- the list
+
+-- rows of the right lengths; what stands in them doesn't matter
+abbrev lent : World
+lent =
+    record {
+      state = record { settings = settings 1; «free_group» = 7; «free_place» = 7; live = 7 };
+      nodes = replicate 22 7;
+      dots = replicate 6 7;
+      rects = replicate 12 (pos 7);
+      marks = replicate 5 7;
+    }
+
+abbrev start : World
+start = layout (fresh (settings 1) 2 3)
+
+made : Make lent (settings 1) start (answered tt)
+unfolding lengthsRight axisFits rootFits inRange
+made = record { badLength = λ l. true-false l; badSettings = λ l e. true-false e; made = λ l e. (refl, refl) }
+
+abbrev dot : ℕ → AABB → Dot
+dot id r = record { id = id; rect = r }
+
+abbrev one : Dot
+one = dot 1 (rect 1 1 2 2)
+
+abbrev two : Dot
+two = dot 2 (rect 3 3 3 3)
+
+abbrev three : Dot
+three = dot 3 (rect 9 9 10 10)
+
+abbrev window : AABB
+window = rect 9 9 12 12
+
+-- the second is off the film; the third splits twice; the first remove looks in another leaf; the cleanup frees the lower group
+abbrev events : List Event
+events =
+    insert one (answered 0)
+    ∷ insert (dot 4 (rect 16 16 18 18)) (refused 5)
+    ∷ insert two (answered 2)
+    ∷ insert three (answered 0)
+    ∷ remove 1 (rect 9 1 10 2) (answered false)
+    ∷ remove 1 (one .rect) (answered true)
+    ∷ remove 2 (two .rect) (answered true)
+    ∷ cleanup (answered true)
+    ∷ query window (0 ∷ []) (3 ∷ []) (answered (record { hits = 1; opened = 3 }))
+    ∷ []
+
+computed : eventsOn (fresh (settings 1) 2 3) (map callOf events) ≡ events
+unfolding flat intersects middle within inverted near farOut W bitsWithin bitLength halvings D contains
+    rootCell rootData childCentre quarterCell childCell childData quadrant routeCell bothTests opens mayDivide
+    fresh inserted splitsMade splitsNeeded removed foundBy cleaned cleans listed opensFor
+    insertRule removeRule cleanupRule queryRule isHit matches indicator changed maxZ minZ
+computed = refl
+
+pub happens : (w : World) × Run start events w
+happens =
+    subst (λ (es : List Event). (w : World) × Run start es w) computed
+    (runs start (fresh (settings 1) 2 3) (made-holds lent (settings 1) start made) (map callOf events))
+
+-- an id that the book doesn't count is not live
+not-live : (id : ℕ) (b : List Dot) → sumOver (idIs id) b ≡ 0 → ¬ Live id b
+not-live id b none live = omega (arith, none, live-count id b live)
+
+distinct : Distinct events
+unfolding indicator
+distinct = (
+  (λ e. not-live 1 [] refl),
+  ((λ e. true-false (sym e)), ((λ e. not-live 2 (one ∷ []) refl), ((λ e. not-live 3 (two ∷ one ∷ []) refl), (tt, (tt, (tt, (tt, (tt, tt)))))))),
+)
+
+-- ---- what is promised after it
+
+-- of a book with one dot, which the query meets, just its id is listed
+module _ (q : AABB) (d : Dot) where
+  listed-is : (ids : List ℕ) → Exactly q (d ∷ []) ids → (k : ℕ) → 1 ≤ count k ids → k ≡ d .id
+  listed-is ids e k c = let t = e .onlyThose k c in ⊎-elim (λ p. sym (t .2) ∙ sym (ap (λ (x : Dot). x .id) p)) (λ n. absurd n) (t .1)
+
+  just-one : isHit q d ≡ true → (ids : List ℕ) → Exactly q (d ∷ []) ids → ids ≡ d .id ∷ []
+  just-one hit [] e = absurd (omega (arith, e .allThose d (inl refl) hit))
+  just-one hit (k ∷ []) e = ap (λ (i : ℕ). i ∷ []) (listed-is (k ∷ []) e k (omega (arith, indicator-same k)))
+  just-one hit (k ∷ m ∷ ids) e =
+      let first = listed-is (k ∷ m ∷ ids) e k (omega (arith, indicator-same k)) in
+      let second = listed-is (k ∷ m ∷ ids) e m (omega (arith, indicator-same m)) in
+      absurd (omega (arith, e .once k, indicator-same k, ap (indicator k) (second ∙ sym first)))
+
+module _ (w : World) (run : Run start events w) where
+  pub promised : Promise (settings 1) w (three ∷ [])
+  unfolding Demand3
+  promised = demand-3 lent (settings 1) start made events w run distinct
+
+  pub lists-three : (row row′ : List ℕ) (w′ : World) (reply : Reply Found) → length row ≡ 1 → Query w window row w′ row′ reply
+      → (a : Found) × (reply ≡ answered a) × (take (a .hits) row′ ≡ 3 ∷ [])
+  unfolding isHit intersects flat maxZ minZ
+  lists-three row row′ w′ reply e call =
+      let l = promised .lists window row row′ w′ reply call (omega (arith, e)) in
+      (l .0, l .1, just-one window three refl (take (l .0 .hits) row′) (l .2))
+
+  pub removes-three : (w′ : World) (reply : Reply Bool) → Remove w 3 (three .rect) w′ reply → reply ≡ answered true
+  removes-three w′ reply call = promised .removesLive three w′ reply call (inl refl)
+
+  pub one-is-gone : (r : AABB) (w′ : World) (reply : Reply Bool) → Remove w 1 r w′ reply → reply ≡ answered false
+  unfolding indicator
+  one-is-gone r w′ reply call = promised .keepsOthers 1 r w′ reply call (not-live 1 (three ∷ []) refl)
+
+  pub third-says-no : (w₁ w₂ w₃ : World) (a₁ a₂ a₃ : Reply Bool) → Cleanup w w₁ a₁ → Cleanup w₁ w₂ a₂ → Cleanup w₂ w₃ a₃ → a₃ ≡ answered false
+  unfolding W bitsWithin bitLength halvings D
+  third-says-no w₁ w₂ w₃ a₁ a₂ a₃ c₁ c₂ c₃ =
+      promised .cleanupsEnd (cleanup a₁ ∷ cleanup a₂ ∷ []) w₂ w₃ a₃ (w₁, c₁, (w₂, c₂, refl)) (tt, (tt, tt)) (omega arith) c₃
+
+  pub opens-few : (v w′ : World) → Cleanup w v (answered false)
+      → (q : AABB) (row row′ : List ℕ) (a : Found) → Query v q row w′ row′ (answered a) → a .opened ≤ 11
+  unfolding W bitsWithin bitLength halvings D
+  opens-few v w′ said q row row′ a call = promised .opensFew [] [] v w′ (v, said, refl) tt tt q row row′ a call
