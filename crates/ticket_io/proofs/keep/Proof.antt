@@ -2,8 +2,8 @@
 use native.Mathlib.Omega.{arith}
 use lib.ListN.{length-set}
 use borrow.Author.Needs.{needs}
-use Rattle.dotcheck.proofs.keep.Statement.{statement}
-use Rattle.dotcheck.proofs.keep.Tie as tie
+use Rattle.ticket_io.proofs.keep.Statement.{statement}
+use Rattle.ticket_io.proofs.keep.Tie as tie
 
 returns : tie.Need-returns
 returns c = simp length-set (omega arith)

@@ -4,8 +4,8 @@ use Prim.Native.Nat.{_+_, _*_, _-_, _≤_}
 use native.Mathlib.Omega.{arith}
 use lib.ListN.{length}
 use borrow.Author.Needs.{needs}
-use Rattle.dotcheck.proofs.chunk.Statement.{statement}
-use Rattle.dotcheck.proofs.chunk.Tie as tie
+use Rattle.ticket_io.proofs.chunk.Statement.{statement}
+use Rattle.ticket_io.proofs.chunk.Tie as tie
 
 abbrev Inv-loop : tie.InvT-loop
 Inv-loop nodes₀ dots₀ rects₀ marks₀ row₀ bytes line₀ out₀ after₀ i₀ nodes dots rects marks row line out after i =

@@ -1,8 +1,8 @@
 -- The kept bytes lie in the line.
 use borrow.Author.Needs.{needs}
-use Rattle.dotcheck.proofs.Parts.{part-length}
-use Rattle.dotcheck.proofs.finish.Statement.{statement}
-use Rattle.dotcheck.proofs.finish.Tie as tie
+use Rattle.ticket_io.proofs.Parts.{part-length}
+use Rattle.ticket_io.proofs.finish.Statement.{statement}
+use Rattle.ticket_io.proofs.finish.Tie as tie
 
 pub finish-spec : {M : Type 1} → statement M
 finish-spec =

@@ -1,8 +1,8 @@
 -- A line that has ended, whose bytes lie in the row, or one byte more.
 use borrow.Author.Needs.{needs}
-use Rattle.dotcheck.proofs.Parts.{part-length}
-use Rattle.dotcheck.proofs.take_byte.Statement.{statement}
-use Rattle.dotcheck.proofs.take_byte.Tie as tie
+use Rattle.ticket_io.proofs.Parts.{part-length}
+use Rattle.ticket_io.proofs.take_byte.Statement.{statement}
+use Rattle.ticket_io.proofs.take_byte.Tie as tie
 
 pub take-byte-spec : {M : Type 1} → statement M
 take-byte-spec =

@@ -1,4 +1,4 @@
--- The answer's bytes lie in the row: the row is long enough for the part of it that is written out.
+-- The answer's bytes lie in the row.
 use mathlib.Core.Path.{_≡_}
 use Prim.Native.Nat.{ℕ, _≤_}
 use borrow.Author.Needs.{needs}
@@ -6,9 +6,8 @@ use Rattle.model.specs.declared.State.{State}
 use Rattle.ticket.specs.First.{endOf}
 use Rattle.ticket.specs.declared.first.Start.{Start}
 use Rattle.ticket.specs.declared.first.Start.the-variants as start
-use Rattle.dotcheck.proofs.Parts.{part-length}
-use Rattle.dotcheck.proofs.turn.Statement.{statement}
-use Rattle.dotcheck.proofs.turn.Tie as tie
+use Rattle.ticket_io.proofs.turn.Statement.{statement}
+use Rattle.ticket_io.proofs.turn.Tie as tie
 
 going : {r : Start} {s : State} {next bound : ℕ} → r ≡ start.Going s next → endOf r ≤ bound → next ≤ bound
 going e h = rw e at h
@@ -22,12 +21,12 @@ turn-spec =
     (tie.spec
     (λ c. search needs) (λ c κs. search needs)
     -- the first line: the tree is made, or the end
-    (λ c. search needs) (λ c. search going) (λ c. search (part-length, going)) (λ c κs. search needs)
-    (λ c. search needs) (λ c. search ended) (λ c. search (part-length, ended)) (λ c κs. search needs)
+    (λ c. search needs) (λ c κs. search going) (λ c. search needs) (λ c κs. search ended)
     -- a later line
-    (λ c. search needs) (λ c κs. search needs) (λ c. search needs) (λ c. search part-length) (λ c κs. search needs)
+    (λ c. search needs) (λ c κs. search needs) (λ c κs. search needs) (λ c. search needs) (λ c. search needs)
     -- every row has its length
     (λ c. search needs) (λ c. search needs) (λ c. search needs) (λ c. search needs) (λ c. search needs) (λ c. search needs)
     (λ c. search needs) (λ c. search needs) (λ c. search needs) (λ c. search needs) (λ c. search needs) (λ c. search needs)
-    (λ c. search needs) (λ c. search needs) (λ c. search needs) (λ c. search needs) (λ c. search needs) (λ c. search needs)
-    (λ c. search needs) (λ c. search needs) (λ c. search needs))
+    (λ c. search needs) (λ c. search needs) (λ c. search needs) (λ c. search needs) (λ c. search needs) (λ c. search needs) (λ c. search needs)
+    -- nothing is answered any more
+    (λ c. search needs) (λ c. search needs))

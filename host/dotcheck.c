@@ -1,0 +1,8 @@
+/* dotcheck with an exit status: 0, or 1 where a read or a write failed. The program itself is proved: link libticket_io.a. */
+#include <stdint.h>
+
+uint32_t krakvinge_dotcheck(void);
+
+int main(void) {
+    return (int)krakvinge_dotcheck();
+}
