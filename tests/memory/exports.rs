@@ -1,4 +1,4 @@
-// The proved calls, by the exports of crates/host.
+// The proved calls, by the exports of crates/krakvinge.
 use crate::krakvinge::raw::{krakvinge_check, krakvinge_make, krakvinge_references};
 use crate::plain::Memory;
 

@@ -8,8 +8,8 @@ use Rattle.geometry.specs.declared.aabb.AABB.{AABB}
 use Rattle.model.specs.declared.answers.Found.{Found}
 use Rattle.model.specs.Calls.{Reply}
 use Rattle.tree_query.specs.Answers.{Queried}
-use Rattle.host.specs.Rows.{stateIn}
-use Rattle.host.specs.Exports.{hitsOpened, Out}
+use Rattle.krakvinge.specs.Rows.{stateIn}
+use Rattle.krakvinge.specs.Exports.{hitsOpened, Out}
 
 abbrev pub Lists : AABB → List ℕ → List ℕ → List ℕ → List ℤ → List ℕ → List ℕ → List ℕ → List ℕ → ℕ → Type 0
 Lists q state nodes dots rects ids answer ids′ answer′ result =

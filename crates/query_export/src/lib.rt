@@ -2,14 +2,14 @@
 ghost use mathlib.Core.Path.{_≡_};
 ghost use lib.ListN.{length};
 ghost use Rattle.tree.specs.Operations.{IsTree};
-ghost use Rattle.host.specs.Rows.{stateIn, rectOf};
+ghost use Rattle.krakvinge.specs.Rows.{stateIn, rectOf};
 ghost use Rattle.query_export.specs.Answers.{Lists};
 use geometry::aabb::AABB;
-use host::answers::query_out;
-use host::rows::state_in;
+use krakvinge::answers::query_out;
+use krakvinge::rows::state_in;
 use tree_query::query::query_row;
 
-// The rows and the result as host's query has them.
+// The rows and the result as krakvinge's query has them.
 #[no_mangle]
 pub extern "C" fn krakvinge_query_unchecked(
     state: &[u32],

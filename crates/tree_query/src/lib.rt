@@ -1,4 +1,4 @@
 // The calls that only read the tree, without the check.
 pub mod leaves;
 pub mod query;
-pub mod walk;
+mod walk;

@@ -2,8 +2,8 @@
 --     made-holds   an accepted make leaves a tree, the fresh one
 --     Call, callOf         a call's arguments; those of an event
 --     eventOn, shapeOn, eventsOn   what a call, a list of calls, makes of a shape by the calls' rules
---     runs, events-calls   every list of calls has a run, whatever the arguments: so Demand3 speaks of every list
---     run-late     in a run from a tree no call is refused 1, 2 or 3
+--     runs         every list of calls has a run, whatever the arguments: so Demand3 speaks of every list
+--     step-late    a call on a tree leaves a tree, and is not refused 1, 2 or 3
 use mathlib.Core.Path.{_≡_, refl, ap, ap₂, sym, _∙_, subst}
 use mathlib.Core.Logic.{_⊎_, inl, inr, ⊎-elim}
 use mathlib.Core.List.{List, [], _∷_, _++_, map}
@@ -16,7 +16,6 @@ use Rattle.geometry.specs.declared.aabb.AABB.{AABB}
 use Rattle.geometry.specs.declared.settings.Settings.{Settings}
 use Rattle.geometry.specs.Rectangles.{inverted, farOut}
 use Rattle.arithmetic.specs.Laws.Tests.{byBool, true-false}
-use Rattle.model.specs.Lists.{All}
 use Rattle.model.specs.Trees.{size}
 use Rattle.geometry.specs.Settings.{rootOf, contains, inRange}
 use Rattle.model.specs.declared.Dot.{Dot}
@@ -140,13 +139,6 @@ module _ (w : World) (x : Shape) (h : Holds w x) where
   next toCleanUp = next-cleanup
   next (toQuery q row) = next-query q row
 
-pub runs : (w : World) (x : Shape) → Holds w x → (cs : List Call) → (v : World) × Run w (eventsOn x cs) v
-runs w x h [] = (w, refl)
-runs w x h (c ∷ cs) =
-    let n = next w x h c in
-    let r = runs (n .0) (shapeOn x c) (n .2) cs in
-    (r .0, (n .0, n .1, r .1))
-
 -- the events are of those calls, in order
 event-call : (x : Shape) (c : Call) → callOf (eventOn x c) ≡ c
 event-call x (toInsert dot) = refl
@@ -154,9 +146,20 @@ event-call x (toRemove id r) = refl
 event-call x toCleanUp = refl
 event-call x (toQuery q row) = refl
 
-pub events-calls : (x : Shape) (cs : List Call) → map callOf (eventsOn x cs) ≡ cs
+events-calls : (x : Shape) (cs : List Call) → map callOf (eventsOn x cs) ≡ cs
 events-calls x [] = refl
 events-calls x (c ∷ cs) = ap₂ (λ (d : Call) (ds : List Call). d ∷ ds) (event-call x c) (events-calls (shapeOn x c) cs)
+
+-- the run by the rules
+by-rules : (w : World) (x : Shape) → Holds w x → (cs : List Call) → (v : World) × Run w (eventsOn x cs) v
+by-rules w x h [] = (w, refl)
+by-rules w x h (c ∷ cs) =
+    let n = next w x h c in
+    let r = by-rules (n .0) (shapeOn x c) (n .2) cs in
+    (r .0, (n .0, n .1, r .1))
+
+pub runs : (w : World) (x : Shape) → Holds w x → (cs : List Call) → (v : World) × Run w (eventsOn x cs) v × (map callOf (eventsOn x cs) ≡ cs)
+runs w x h cs = let r = by-rules w x h cs in (r .0, r .1, events-calls x cs)
 
 -- ---- refusals in a run
 
@@ -187,7 +190,7 @@ insert-late dot x w =
     (λ e₇. inl (rw (e₄, e₅, e₆, e₇) refl)))))
 
 -- one call: what it leaves is a tree, and its refusal is late
-step-late : (w : World) (e : Event) (v : World) (x : Shape) → Holds w x → Happens w e v → Late (refusalOf e) × (y : Shape) × Holds v y
+pub step-late : (w : World) (e : Event) (v : World) (x : Shape) → Holds w x → Happens w e v → Late (refusalOf e) × (y : Shape) × Holds v y
 step-late w (insert dot reply) v x h call =
     let late = subst (λ (r : Reply ℕ). Late (refusal r)) (sym (reply-of (insert-exit w dot v reply call x h))) (insert-late dot x w) in
     ⊎-elim
@@ -203,9 +206,3 @@ step-late w (query q row row′ reply) v x h call =
     byBool (ltb (length row) (length (listed q x)))
     (λ e. let a = query-short w q row v row′ reply call x h e in (inr (subst (λ (k : ℕ). 4 ≤ k) (sym (ap refusal (a .1))) (omega arith)), x, a .0))
     (λ e. let a = query-done w q row v row′ reply call x h e in (inl (ap refusal (a .1)), x, a .0))
-
-pub run-late : (w : World) (x : Shape) → Holds w x → (es : List Event) (v : World) → Run w es v → All (λ e. Late (refusalOf e)) es
-run-late w x h [] v run = tt
-run-late w x h (e ∷ es) v run =
-    let s = step-late w e (run .0) x h (run .1) in
-    (s .0, run-late (run .0) (s .1) (s .2) es v (run .2))

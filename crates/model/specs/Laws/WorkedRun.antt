@@ -4,6 +4,7 @@
 --     happens      it happens: the rules, computed from the fresh tree, give these replies
 --     distinct     it meets §12.6
 --     promised     by Demand3: its book is the one dot that is live
+--     refused-kept     its refused call left all as it was (§11.7)
 -- From `promised` alone, of whatever is called next and whatever it leaves:
 --     lists-three      a query lists the live id (§12.7)
 --     removes-three    its remove by its rectangle says yes (§12.8)
@@ -31,13 +32,15 @@ use Rattle.model.specs.declared.answers.Found.{Found}
 use Rattle.model.specs.Dots.{isHit, matches}
 use Rattle.model.specs.Shapes.{fresh, inserted, splitsMade, splitsNeeded, removed, foundBy, cleaned, cleans, listed, opensFor}
 use Rattle.model.specs.Layout.{World, lengthsRight, layout}
-use Rattle.model.specs.Calls.{Reply, refused, answered, insertRule, removeRule, cleanupRule, queryRule, Make, Remove, Cleanup, Query}
+use Rattle.model.specs.Calls.{Reply, refused, answered, exit, insertRule, removeRule, cleanupRule, queryRule, Make, Remove, Cleanup, Query}
 use Rattle.model.specs.Book.{Event, insert, remove, cleanup, query, Run, Live, Distinct, Exactly, Promise, Demand3}
 use Rattle.model.specs.Trials.{settings, rect}
 use Rattle.model.specs.Laws.Sums.{indicator-same}
 use Rattle.model.specs.Laws.Book.{live-count}
 use Rattle.model.specs.Laws.Dots.{idIs}
 use Rattle.model.specs.Laws.Runs.{made-holds, callOf, eventsOn, runs}
+use Rattle.model.specs.Laws.Pattern.{Untouched}
+use Rattle.model.specs.Laws.Kept.{run-kept}
 use Rattle.model.specs.Laws.Demand.{demand-3}
 
 -- ---- the list
@@ -98,8 +101,8 @@ computed = refl
 
 pub happens : (w : World) × Run start events w
 happens =
-    subst (λ (es : List Event). (w : World) × Run start es w) computed
-    (runs start (fresh (settings 1) 2 3) (made-holds lent (settings 1) start made) (map callOf events))
+    let r = runs start (fresh (settings 1) 2 3) (made-holds lent (settings 1) start made) (map callOf events) in
+    (r .0, subst (λ (es : List Event). Run start es (r .0)) computed (r .1))
 
 -- an id that the book doesn't count is not live
 not-live : (id : ℕ) (b : List Dot) → sumOver (idIs id) b ≡ 0 → ¬ Live id b
@@ -131,6 +134,9 @@ module _ (w : World) (run : Run start events w) where
   pub promised : Promise (settings 1) w (three ∷ [])
   unfolding Demand3
   promised = demand-3 lent (settings 1) start made events w run distinct
+
+  pub refused-kept : Untouched {B = ℕ} {A = ℕ} (run .0) [] (exit (run .2 .0) [] (refused 5))
+  refused-kept = run-kept start (fresh (settings 1) 2 3) (made-holds lent (settings 1) start made) events w run .1 .0 .untouched (omega arith)
 
   pub lists-three : (row row′ : List ℕ) (w′ : World) (reply : Reply Found) → length row ≡ 1 → Query w window row w′ row′ reply
       → (a : Found) × (reply ≡ answered a) × (take (a .hits) row′ ≡ 3 ∷ [])

@@ -1,5 +1,5 @@
 -- The query's own contract, with the state read from its row.
-use Rattle.host.specs.Laws.Rows.{told}
+use Rattle.krakvinge.specs.Laws.Rows.{told}
 use borrow.Author.Needs.{needs}
 use Rattle.query_export.proofs.krakvinge_query_unchecked.Statement.{statement}
 use Rattle.query_export.proofs.krakvinge_query_unchecked.Tie as tie

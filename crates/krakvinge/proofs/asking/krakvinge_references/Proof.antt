@@ -1,0 +1,26 @@
+-- The call's own contract, after a test of both rows.
+use mathlib.Core.Path.{refl}
+use Rattle.krakvinge.specs.Laws.Rows.{ten, two}
+use Rattle.krakvinge.specs.Laws.Exports.{exported-other, exported-read}
+use borrow.Author.Needs.{needs}
+use Rattle.krakvinge.proofs.asking.krakvinge_references.Statement.{statement}
+use Rattle.krakvinge.proofs.asking.krakvinge_references.Tie as tie
+
+returns-2 : tie.Need-returns-2
+returns-2 c =
+    let out : tie.After-references-out = search in
+    let called : tie.After-references = search in
+    let read : tie.After-state-in = search in
+    let fits : tie.Else1 = search in
+    exported-read _ (fits .before .rows-fit .ensures) (fits .if1 .left)
+    (read .state-in .ensures) (called .references .ensures) refl (out .references-out .ensures)
+
+pub krakvinge-references-spec : {M : Type 1} → statement M
+krakvinge-references-spec =
+    tie.close
+    (tie.spec
+    -- rows of another length
+    (λ c κs. search needs) (λ c. search needs) (λ c. search exported-other)
+    -- the call
+    (λ c κs. search ten) (λ c κs. search needs) (λ c κs. search two)
+    (λ c. search needs) (λ c. search needs) returns-2)

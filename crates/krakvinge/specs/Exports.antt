@@ -1,0 +1,132 @@
+-- What each exported call leaves in the rows that it is lent, by the model's statement of the call (§18).
+--     Lent         the rows: state, nodes, dots, rectangles, marks, answer
+--     resultOf     what is returned: 0 or the refusal, 8 with 256 times the number wanted added
+--     stateRow, answerRow      the state row and the answer row after a reply; a refused call leaves them as they were
+--     Out          an answer row and a result, by a reply
+--     Exported     THE PATTERN: refusal 1 where the host's own rows don't fit, else the call
+--     Inserts, Removes, CleansUp, Queries, ListsAll, ListsLeaves, CountsDots, Batches, Makes, Checks
+use mathlib.Core.Path.{_≡_}
+use mathlib.Core.List.{List, [], _∷_}
+use mathlib.Core.Bool.{Bool, true, false}
+use Prim.Native.Nat.{ℕ, _+_, _*_}
+use lib.IntN.{ℤ}
+use lib.ListN.{length}
+use Rattle.geometry.specs.declared.aabb.AABB.{AABB}
+use Rattle.model.specs.declared.State.{State}
+use Rattle.model.specs.Layout.{World, world}
+use Rattle.model.specs.declared.answers.Found.{Found}
+use Rattle.model.specs.Calls.{Reply, refused, tooMany, answered, refusal, yesNo, Insert, Remove, Cleanup, Query, All, Leaves, References, Make, Batch}
+use Rattle.model.specs.declared.answers.MakeAnswer.{MakeAnswer}
+use Rattle.model.specs.Answers.{makeReply, makeState}
+use Rattle.tree_check.specs.Checks.{Checked}
+use Rattle.krakvinge.specs.Rows.{settingsIn, stateIn, withState, rowsFit}
+use Rattle.krakvinge.specs.Records.{recordsIn, batchFits}
+
+pub record Lent : Type 0 where
+  pub state : List ℕ
+  pub nodes : List ℕ
+  pub dots : List ℕ
+  pub rects : List ℤ
+  pub marks : List ℕ
+  pub answer : List ℕ
+
+abbrev pub lent : List ℕ → List ℕ → List ℕ → List ℤ → List ℕ → List ℕ → Lent
+lent state nodes dots rects marks answer = record { state = state; nodes = nodes; dots = dots; rects = rects; marks = marks; answer = answer }
+
+abbrev pub worldOf : State → Lent → World
+worldOf s l = world s (l .nodes) (l .dots) (l .rects) (l .marks)
+
+-- §18.3: the refusal's number, 8 with 256 times the number of answers added
+abbrev pub resultOf : {A : Type 0} → Reply A → ℕ
+resultOf {A} (refused k) = refusal {A = A} (refused k)
+resultOf {A} (tooMany n) = refusal {A = A} (tooMany n) + 256 * n
+resultOf {A} (answered a) = refusal (answered a)
+
+abbrev pub stateRow : {A : Type 0} → State → List ℕ → Reply A → List ℕ
+stateRow s row (refused k) = row
+stateRow s row (tooMany n) = row
+stateRow s row (answered a) = withState s row
+
+abbrev pub answerRow : {A : Type 0} → (A → List ℕ) → List ℕ → Reply A → List ℕ
+answerRow words row (refused k) = row
+answerRow words row (tooMany n) = row
+answerRow words row (answered a) = words a
+
+-- an answer's two words
+abbrev pub number : ℕ → List ℕ
+number n = n ∷ 0 ∷ []
+
+abbrev pub yesOrNo : Bool → List ℕ
+yesOrNo yes? = yesNo yes? ∷ 0 ∷ []
+
+abbrev pub hitsOpened : Found → List ℕ
+hitsOpened l = l .hits ∷ l .opened ∷ []
+
+-- the answer row and what is returned, by the reply
+pub record Out {A : Type 0} (words : A → List ℕ) (reply : Reply A) (row row′ : List ℕ) (result : ℕ) : Type 0 where
+  pub answer : row′ ≡ answerRow words row reply
+  pub returned : result ≡ resultOf reply
+
+-- says: the call, from the world and its row of answers before to those after, with its reply
+pub record Exported {B A : Type 0} (fits : Bool) (words : A → List ℕ) (says : World → List B → World → List B → Reply A → Type 0)
+    (l : Lent) (row : List B) (l′ : Lent) (row′ : List B) (result : ℕ) : Type 0 where
+  pub otherLength : fits ≡ false → (l′ ≡ l) × (row′ ≡ row) × (result ≡ 1)
+  pub carriedOut : fits ≡ true
+      → (s : State) × (reply : Reply A) × says (worldOf (stateIn (l .state)) l) row (worldOf s l′) row′ reply
+      × (l′ .state ≡ stateRow s (l .state) reply) × Out words reply (l .answer) (l′ .answer) result
+
+-- ---- the calls
+
+abbrev pub Inserts : ℕ → AABB → Lent → Lent → ℕ → Type 0
+Inserts id r l l′ result =
+    Exported (rowsFit (l .state) (l .answer)) number (λ (w : World) (row : List ℕ) (w′ : World) (row′ : List ℕ) (reply : Reply ℕ). Insert w
+    (record { id = id; rect = r }) w′ reply) l [] l′ [] result
+
+abbrev pub Removes : ℕ → AABB → Lent → Lent → ℕ → Type 0
+Removes id r l l′ result =
+    Exported (rowsFit (l .state) (l .answer)) yesOrNo (λ (w : World) (row : List ℕ) (w′ : World) (row′ : List ℕ)
+    (reply : Reply Bool). Remove w id r w′ reply) l [] l′ [] result
+
+abbrev pub CleansUp : Lent → Lent → ℕ → Type 0
+CleansUp l l′ result =
+    Exported (rowsFit (l .state) (l .answer)) yesOrNo (λ (w : World) (row : List ℕ) (w′ : World) (row′ : List ℕ)
+    (reply : Reply Bool). Cleanup w w′ reply) l [] l′ [] result
+
+abbrev pub CountsDots : Lent → Lent → ℕ → Type 0
+CountsDots l l′ result =
+    Exported (rowsFit (l .state) (l .answer)) number (λ (w : World) (row : List ℕ) (w′ : World) (row′ : List ℕ)
+    (reply : Reply ℕ). References w w′ reply) l [] l′ [] result
+
+abbrev pub Queries : AABB → Lent → List ℕ → Lent → List ℕ → ℕ → Type 0
+Queries r l row l′ row′ result =
+    Exported (rowsFit (l .state) (l .answer)) hitsOpened (λ (w : World) (ids : List ℕ) (w′ : World) (ids′ : List ℕ)
+    (reply : Reply Found). Query w r ids w′ ids′ reply) l row l′ row′ result
+
+abbrev pub ListsAll : Lent → List ℕ → Lent → List ℕ → ℕ → Type 0
+ListsAll l row l′ row′ result = Exported (rowsFit (l .state) (l .answer)) hitsOpened All l row l′ row′ result
+
+abbrev pub ListsLeaves : Lent → List ℤ → Lent → List ℤ → ℕ → Type 0
+ListsLeaves l row l′ row′ result = Exported (rowsFit (l .state) (l .answer)) number Leaves l row l′ row′ result
+
+-- the row is the answers'; the batch has no answer row beside it
+abbrev pub Batches : List ℕ → Lent → List ℕ → Lent → List ℕ → ℕ → Type 0
+Batches records l answers l′ answers′ result =
+    Exported (batchFits (l .state) records) (λ (done : Unit {0}). [])
+    (λ (w : World) (row : List ℕ) (w′ : World) (row′ : List ℕ) (reply : Reply (Unit {0})). Batch w (recordsIn records) row w′ row′ reply) l answers l′
+    answers′ result
+
+-- ---- make, which has no answer row, and the check alone
+
+abbrev pub madeRow : MakeAnswer → List ℕ → List ℕ
+madeRow m row = stateRow (makeState (stateIn row) m) row (makeReply m)
+
+pub record Makes (row nodes dots : List ℕ) (rects : List ℤ) (marks row′ nodes′ dots′ : List ℕ) (rects′ : List ℤ) (marks′ : List ℕ) (result : ℕ) : Type 0 where
+  pub otherLength : (length row ≡ 10 → ⊥) → (result ≡ 1) × (row′ ≡ row) × (nodes′ ≡ nodes) × (dots′ ≡ dots) × (rects′ ≡ rects) × (marks′ ≡ marks)
+  pub carriedOut : length row ≡ 10
+      → (m : MakeAnswer) × ((before : State) → Make (world before nodes dots rects marks) (settingsIn row)
+      (world (makeState before m) nodes′ dots′ rects′ marks′) (makeReply m))
+      × (result ≡ resultOf (makeReply m)) × (row′ ≡ madeRow m row)
+
+pub record Checks (row nodes dots : List ℕ) (rects : List ℤ) (marks marks′ : List ℕ) (result : ℕ) : Type 0 where
+  pub otherLength : (length row ≡ 10 → ⊥) → (result ≡ 1) × (marks′ ≡ marks)
+  pub carriedOut : length row ≡ 10 → Checked (stateIn row) nodes dots rects marks marks′ result

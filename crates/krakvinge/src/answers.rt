@@ -1,0 +1,128 @@
+// What an exported call writes and returns, for each answer. A refusal leaves the rows as they were.
+ghost use mathlib.Core.Path.{_≡_};
+ghost use lib.ListN.{length};
+ghost use Rattle.model.specs.Answers.{makeReply, insertReply, insertState, removeReply, removeState, cleanupReply, cleanupState, queryReply};
+ghost use Rattle.model.specs.Answers.{leavesReply, referencesReply};
+ghost use Rattle.krakvinge.specs.Rows.{stateIn};
+ghost use Rattle.krakvinge.specs.Exports.{number, yesOrNo, hitsOpened, resultOf, stateRow, madeRow, Out};
+use crate::rows::answer_out;
+use crate::rows::state_out;
+use crate::rows::too_many;
+use model::answers::CleanupAnswer;
+use model::answers::InsertAnswer;
+use model::answers::LeavesAnswer;
+use model::answers::MakeAnswer;
+use model::answers::QueryAnswer;
+use model::answers::ReferencesAnswer;
+use model::answers::RemoveAnswer;
+use model::yes_no;
+
+// Of make: nothing beside the state.
+pub fn make_out(state: &mut [u32], done: MakeAnswer) -> u64
+    requires { ⌜ length (now state) ≡ 10 ⌝ }
+    ensures { λ r. ⌜ (now (state .exit) ≡ madeRow done (now (state .entry))) × (r ≡ resultOf (makeReply done)) ⌝ }
+{
+    match done {
+        MakeAnswer::Refused(refusal) => refusal as u64,
+        MakeAnswer::Made(made) => {
+            state_out(state, made);
+            0
+        }
+    }
+}
+
+// Of an insert: the splits, 0.
+pub fn insert_out(state: &mut [u32], answer: &mut [u32], done: InsertAnswer) -> u64
+    requires { ⌜ (length (now state) ≡ 10) × (length (now answer) ≡ 2) ⌝ }
+    ensures { λ r. ⌜ (now (state .exit) ≡ stateRow (insertState (stateIn (now (state .entry))) done) (now (state .entry)) (insertReply done))
+        × Out number (insertReply done) (now (answer .entry)) (now (answer .exit)) r ⌝ }
+{
+    match done {
+        InsertAnswer::Refused(refusal) => refusal as u64,
+        InsertAnswer::Splits(splits, after) => {
+            state_out(state, after);
+            answer_out(answer, splits, 0);
+            0
+        }
+    }
+}
+
+// Of a remove: 1 for yes or 0 for no, 0.
+pub fn remove_out(state: &mut [u32], answer: &mut [u32], done: RemoveAnswer) -> u64
+    requires { ⌜ (length (now state) ≡ 10) × (length (now answer) ≡ 2) ⌝ }
+    ensures { λ r. ⌜ (now (state .exit) ≡ stateRow (removeState (stateIn (now (state .entry))) done) (now (state .entry)) (removeReply done))
+        × Out yesOrNo (removeReply done) (now (answer .entry)) (now (answer .exit)) r ⌝ }
+{
+    match done {
+        RemoveAnswer::Refused(refusal) => refusal as u64,
+        RemoveAnswer::Yes(after) => {
+            state_out(state, after);
+            answer_out(answer, 1, 0);
+            0
+        }
+        RemoveAnswer::No => {
+            answer_out(answer, 0, 0);
+            0
+        }
+    }
+}
+
+// Of a cleanup: 1 for yes or 0 for no, 0.
+pub fn cleanup_out(state: &mut [u32], answer: &mut [u32], done: CleanupAnswer) -> u64
+    requires { ⌜ (length (now state) ≡ 10) × (length (now answer) ≡ 2) ⌝ }
+    ensures { λ r. ⌜ (now (state .exit) ≡ stateRow (cleanupState (stateIn (now (state .entry))) done) (now (state .entry)) (cleanupReply done))
+        × Out yesOrNo (cleanupReply done) (now (answer .entry)) (now (answer .exit)) r ⌝ }
+{
+    match done {
+        CleanupAnswer::Refused(refusal) => refusal as u64,
+        CleanupAnswer::Done(yes, after) => {
+            state_out(state, after);
+            answer_out(answer, yes_no(yes), 0);
+            0
+        }
+    }
+}
+
+// Of a query and of all: hits, opened.
+pub fn query_out(answer: &mut [u32], done: QueryAnswer) -> u64
+    requires { ⌜ length (now answer) ≡ 2 ⌝ }
+    ensures { λ r. ⌜ Out hitsOpened (queryReply done) (now (answer .entry)) (now (answer .exit)) r ⌝ }
+{
+    match done {
+        QueryAnswer::Refused(refusal) => refusal as u64,
+        QueryAnswer::TooMany(many) => too_many(many),
+        QueryAnswer::Listed(found) => {
+            answer_out(answer, found.hits, found.opened);
+            0
+        }
+    }
+}
+
+// Of leaves: how many, 0.
+pub fn leaves_out(answer: &mut [u32], done: LeavesAnswer) -> u64
+    requires { ⌜ length (now answer) ≡ 2 ⌝ }
+    ensures { λ r. ⌜ Out number (leavesReply done) (now (answer .entry)) (now (answer .exit)) r ⌝ }
+{
+    match done {
+        LeavesAnswer::Refused(refusal) => refusal as u64,
+        LeavesAnswer::TooMany(many) => too_many(many),
+        LeavesAnswer::Listed(many) => {
+            answer_out(answer, many, 0);
+            0
+        }
+    }
+}
+
+// Of references: the dots, 0.
+pub fn references_out(answer: &mut [u32], done: ReferencesAnswer) -> u64
+    requires { ⌜ length (now answer) ≡ 2 ⌝ }
+    ensures { λ r. ⌜ Out number (referencesReply done) (now (answer .entry)) (now (answer .exit)) r ⌝ }
+{
+    match done {
+        ReferencesAnswer::Refused(refusal) => refusal as u64,
+        ReferencesAnswer::Count(count) => {
+            answer_out(answer, count, 0);
+            0
+        }
+    }
+}

@@ -1,0 +1,129 @@
+// The calls that leave the tree as it is: query, all, leaves, references, and the check alone.
+ghost use Rattle.krakvinge.specs.Rows.{rectOf};
+ghost use Rattle.krakvinge.specs.Exports.{lent, Queries, ListsAll, ListsLeaves, CountsDots, Checks};
+use crate::answers::leaves_out;
+use crate::answers::query_out;
+use crate::answers::references_out;
+use crate::rows::rows_fit;
+use crate::rows::state_in;
+use calls::leaves::leaves;
+use calls::query::all;
+use calls::query::query;
+use calls::references::references;
+use geometry::aabb::AABB;
+use tree_check::check::check;
+
+// The ids of the dots that the rectangle meets; the answer is their number and the nodes opened.
+#[no_mangle]
+pub extern "C" fn krakvinge_query(
+    state: &[u32],
+    nodes: &[u32],
+    dots: &[u32],
+    rects: &[i32],
+    marks: &mut [u8],
+    x1: i32,
+    y1: i32,
+    x2: i32,
+    y2: i32,
+    ids: &mut [u32],
+    answer: &mut [u32],
+) -> u64
+    ensures { λ r. ⌜ Queries (rectOf x1 y1 x2 y2)
+        (lent (now (state .entry)) (now (nodes .entry)) (now (dots .entry)) (now (rects .entry)) (now (marks .entry)) (now (answer .entry)))
+        (now (ids .entry)) (lent (now (state .exit)) (now (nodes .exit)) (now (dots .exit)) (now (rects .exit)) (now (marks .exit))
+        (now (answer .exit))) (now (ids .exit)) r ⌝ }
+{
+    if !rows_fit(state, answer) {
+        return 1;
+    }
+    let before = state_in(state);
+    let rect = AABB { x1, y1, x2, y2 };
+    let done = query(before, nodes, dots, rects, marks, rect, ids);
+    query_out(answer, done)
+}
+
+// A query with the root's rectangle.
+#[no_mangle]
+pub extern "C" fn krakvinge_all(
+    state: &[u32],
+    nodes: &[u32],
+    dots: &[u32],
+    rects: &[i32],
+    marks: &mut [u8],
+    ids: &mut [u32],
+    answer: &mut [u32],
+) -> u64
+    ensures { λ r. ⌜ ListsAll (lent (now (state .entry)) (now (nodes .entry)) (now (dots .entry)) (now (rects .entry)) (now (marks .entry))
+        (now (answer .entry))) (now (ids .entry))
+        (lent (now (state .exit)) (now (nodes .exit)) (now (dots .exit)) (now (rects .exit)) (now (marks .exit)) (now (answer .exit))) (now (ids .exit)) r ⌝ }
+{
+    if !rows_fit(state, answer) {
+        return 1;
+    }
+    let before = state_in(state);
+    let done = all(before, nodes, dots, rects, marks, ids);
+    query_out(answer, done)
+}
+
+// Six numbers a leaf (§9.2); the answer is the number of leaves.
+#[no_mangle]
+pub extern "C" fn krakvinge_leaves(
+    state: &[u32],
+    nodes: &[u32],
+    dots: &[u32],
+    rects: &[i32],
+    marks: &mut [u8],
+    row: &mut [i32],
+    answer: &mut [u32],
+) -> u64
+    ensures { λ r. ⌜ ListsLeaves (lent (now (state .entry)) (now (nodes .entry)) (now (dots .entry)) (now (rects .entry)) (now (marks .entry))
+        (now (answer .entry))) (now (row .entry))
+        (lent (now (state .exit)) (now (nodes .exit)) (now (dots .exit)) (now (rects .exit)) (now (marks .exit)) (now (answer .exit))) (now (row .exit)) r ⌝ }
+{
+    if !rows_fit(state, answer) {
+        return 1;
+    }
+    let before = state_in(state);
+    let done = leaves(before, nodes, dots, rects, marks, row);
+    leaves_out(answer, done)
+}
+
+// The dots in all leaves; the answer is their number.
+#[no_mangle]
+pub extern "C" fn krakvinge_references(
+    state: &[u32],
+    nodes: &[u32],
+    dots: &[u32],
+    rects: &[i32],
+    marks: &mut [u8],
+    answer: &mut [u32],
+) -> u64
+    ensures { λ r. ⌜ CountsDots (lent (now (state .entry)) (now (nodes .entry)) (now (dots .entry)) (now (rects .entry)) (now (marks .entry))
+        (now (answer .entry))) (lent (now (state .exit)) (now (nodes .exit)) (now (dots .exit)) (now (rects .exit)) (now (marks .exit))
+        (now (answer .exit))) r ⌝ }
+{
+    if !rows_fit(state, answer) {
+        return 1;
+    }
+    let before = state_in(state);
+    let done = references(before, nodes, dots, rects, marks);
+    references_out(answer, done)
+}
+
+// The check that each call begins with, alone: 0 where the rows are a tree.
+#[no_mangle]
+pub extern "C" fn krakvinge_check(
+    state: &[u32],
+    nodes: &[u32],
+    dots: &[u32],
+    rects: &[i32],
+    marks: &mut [u8],
+) -> u64
+    ensures { λ r. ⌜ Checks (now (state .entry)) (now (nodes .entry)) (now (dots .entry)) (now (rects .entry)) (now (marks .entry)) (now (marks .exit)) r ⌝ }
+{
+    if state.len() != 10 {
+        return 1;
+    }
+    let before = state_in(state);
+    check(before, nodes, dots, rects, marks) as u64
+}
