@@ -67,6 +67,14 @@ fn walk_chain(
     Found { hits, opened }
 }
 
+// A group that is walked: its first node, the levels from there on, the cell above it, and the quadrants of that cell that the query reaches.
+struct Group {
+    first: usize,
+    levels: u32,
+    cell: CenteredAABB,
+    quadrants: Quadrants,
+}
+
 // Opens a node: lists its chain, or hands its group on.
 pub fn walk_node(
     nodes: &[u32],
@@ -93,21 +101,13 @@ pub fn walk_node(
         return walk_chain(dots, rects, words, query, opened, row, room);
     }
     let quadrants = cell.explore_quadrants(query);
-    let first = words.first as usize;
-    walk_group(
-        nodes,
-        dots,
-        rects,
-        first,
-        levels - 1,
-        5,
+    let group = Group {
+        first: words.first as usize,
+        levels: levels - 1,
         cell,
         quadrants,
-        query,
-        opened,
-        row,
-        room,
-    )
+    };
+    walk_group(nodes, dots, rects, group, 5, query, opened, row, room)
 }
 
 // Hands back the last `left` children of a group, those that the query opens, in rising order.
@@ -115,67 +115,41 @@ fn walk_group(
     nodes: &[u32],
     dots: &[u32],
     rects: &[i32],
-    first: usize,
-    levels: u32,
+    group: Group,
     left: u32,
-    cell: CenteredAABB,
-    quadrants: Quadrants,
     query: AABB,
     found: Found,
     row: &mut [u32],
     room: usize,
 ) -> Found
-    requires { ⌜ GroupWalk query cell quadrants (now nodes) (now dots) (now rects) room (now row) found first levels left ⌝ }
-    ensures { λ r. ⌜ GroupWalked query cell (now (nodes .entry)) (now (dots .entry)) (now (rects .entry)) room (now (row .entry)) found first levels left
-        (now (row .exit)) r ⌝ }
+    requires { ⌜ GroupWalk query (group .cell) (group .quadrants) (now nodes) (now dots) (now rects) room (now row) found
+        (group .first) (group .levels) left ⌝ }
+    ensures { λ r. ⌜ GroupWalked query (group .cell) (now (nodes .entry)) (now (dots .entry)) (now (rects .entry)) room (now (row .entry)) found
+        (group .first) (group .levels) left (now (row .exit)) r ⌝ }
 {
     if left == 0 {
         return found;
     }
     let child = 5 - left;
     let rest = left - 1;
+    let quadrants = group.quadrants;
     if !((child == 0) | quadrants.at(child)) {
-        return walk_group(
-            nodes,
-            dots,
-            rects,
-            first,
-            levels,
-            rest,
-            cell,
-            quadrants,
-            query,
-            found,
-            row,
-            room,
-        );
+        return walk_group(nodes, dots, rects, group, rest, query, found, row, room);
     }
-    let node = first + child as usize;
+    let cell = group.cell;
+    let node = group.first + child as usize;
     let below = cell.split(child);
     let met = walk_node(
         nodes,
         dots,
         rects,
         node,
-        levels,
+        group.levels,
         below,
         query,
         found,
         row,
         room,
     );
-    walk_group(
-        nodes,
-        dots,
-        rects,
-        first,
-        levels,
-        rest,
-        cell,
-        quadrants,
-        query,
-        met,
-        row,
-        room,
-    )
+    walk_group(nodes, dots, rects, group, rest, query, met, row, room)
 }
