@@ -1,6 +1,7 @@
 // A ticket from standard input to standard output: line by line, with 1024 places and 512 groups.
 mod stream;
 
+ghost use mathlib.Core.Path.{_≡_};
 ghost use Prim.Native.Nat.{_+_, _*_, _≤_};
 ghost use lib.ListN.{length};
 use crate::stream::read_some;
@@ -214,7 +215,9 @@ fn run(
 
 // The header, then the answers. The status is 0, or 1 where a read or a write failed: then nothing more is read or answered.
 #[no_mangle]
-pub extern "C" fn krakvinge_dotcheck() -> u32 {
+pub extern "C" fn krakvinge_dotcheck() -> u32
+    ensures { λ r. ⌜ r ≤ 1 ⌝ }
+{
     let mut nodes = [0u32; 5122];
     let mut dots = [0u32; 2048];
     let mut rects = [0i32; 4096];
@@ -244,7 +247,9 @@ pub extern "C" fn krakvinge_dotcheck() -> u32 {
 }
 
 // Says on standard error which error it was.
-fn failed() -> u32 {
+fn failed() -> u32
+    ensures { λ r. ⌜ r ≡ 1 ⌝ }
+{
     os::fail(b"dotcheck");
     1
 }
