@@ -23,8 +23,8 @@ use Rattle.ticket.specs.Ticket.{replyLine, refusalLine, listing, Nine, L
 use Rattle.ticket.specs.First.{startOf, MakeLine, NoStart, FirstAnswer, Started}
 
 -- w is a tree, or it is none
-abbrev pub Decided : World → Type 0
-Decided w = ((x : Shape) × Holds w x) ⊎ ((x : Shape) → Holds w x → ⊥)
+abbrev pub TreeOrNone : World → Type 0
+TreeOrNone w = ((x : Shape) × Holds w x) ⊎ ((x : Shape) → Holds w x → ⊥)
 
 module _ (o p : Output) (before : o .before ≡ p .before) where
   -- the lines of equal replies
@@ -35,7 +35,7 @@ module _ (o p : Output) (before : o .before ≡ p .before) where
       → (w₁ ≡ w₂) × (row₁ ≡ row₂) × (o ≡ p)
   nine m n = (m .0 ∙ sym (n .0), m .1 ∙ sym (n .1), written-fixed o p (refusalLine 9) before (m .2) (n .2))
 
-  module _ (w : World) (row : List ℕ) (tree? : Decided w) (w₁ w₂ : World) (row₁ row₂ : List ℕ) where
+  module _ (w : World) (row : List ℕ) (tree? : TreeOrNone w) (w₁ w₂ : World) (row₁ row₂ : List ℕ) where
     answer-fixed : (l : Line) → LineAnswer w row l w₁ row₁ o → LineAnswer w row l w₂ row₂ p → (w₁ ≡ w₂) × (row₁ ≡ row₂) × (o ≡ p)
     unfolding Insert Remove Cleanup Query
     answer-fixed line.Unreadable m n = nine m n
@@ -62,7 +62,7 @@ module _ (o p : Output) (before : o .before ≡ p .before) where
         let rows : row₁ ≡ row₂ = ap (λ x. x .row) e in
         (ap (λ x. x .world) e, rows, replies _ _ _ _ (ap listing rows) (ap (λ x. x .reply) e) (c .line) (d .line))
 
-pub answered-fixed : (w : World) (row input : List ℕ) → Decided w → (w₁ w₂ : World) (row₁ row₂ : List ℕ) (o p : Output) → o .before ≡ p .before
+pub answered-fixed : (w : World) (row input : List ℕ) → TreeOrNone w → (w₁ w₂ : World) (row₁ row₂ : List ℕ) (o p : Output) → o .before ≡ p .before
     → Answered w row input w₁ row₁ o → Answered w row input w₂ row₂ p → (w₁ ≡ w₂) × (row₁ ≡ row₂) × (o ≡ p)
 answered-fixed w row input tree? w₁ w₂ row₁ row₂ o p before m n =
     let one = line-one input (n .says) (m .says) (n .is) (m .is) in
