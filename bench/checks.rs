@@ -47,7 +47,7 @@ fn measure(settings: &Settings, dots: &[Record], groups: usize, places: usize) {
 fn full(settings: &Settings) -> Vec<Record> {
     let mut random = Random(7);
     let mut corner = || random.below(1 << 20) as i32;
-    let tried: Vec<_> = (0..2 * PLACES as u32).map(|id| (id, corner(), corner())).map(|(id, x, y)| Record::insert(id, [x, y, x + 8, y + 8])).collect();
+    let tried: Vec<_> = (0..2 * PLACES as u32).map(|id| (id, corner(), corner())).map(|(id, x, y)| Record::insert(id, [x, y, x + 8, y + 8], id % 16)).collect();
     let mut answers = vec![0; tried.len()];
     assert_eq!(port::fresh(settings, GROUPS, PLACES).batch(Record::words(&tried), &mut answers), 0);
     tried.into_iter().zip(answers).filter(|&(_, answer)| Record::refusal(answer).is_none()).map(|(insert, _)| insert).collect()

@@ -16,7 +16,7 @@ pub struct Screen {
 pub const UPRIGHT: Screen = Screen { angle: 0, step: PITCH, rise: PITCH, shift: 0 };
 pub const DIAGONAL: Screen = Screen { angle: 45, step: 14, rise: 7, shift: 7 };
 
-// A square film and its dots, each as the record of its insert, by rows.
+// A square film and its dots, each as the record of its insert, by rows; the inks in turn.
 pub struct Field {
     side: i32,
     dots: Vec<Record>,
@@ -28,7 +28,7 @@ impl Screen {
         let rows = |columns: i32| columns * self.step / self.rise;
         let columns = (1..).find(|&c| (c * rows(c)) as usize >= count).expect("a film");
         let places = (0..rows(columns)).flat_map(|j| (0..columns).map(move |i| (self.step * i + j % 2 * self.shift, self.rise * j)));
-        let dots = places.zip(0..count as u32).map(|((x, y), id)| Record::insert(id, [x, y, x + DOT, y + DOT])).collect();
+        let dots = places.zip(0..count as u32).map(|((x, y), id)| Record::insert(id, [x, y, x + DOT, y + DOT], id % 16)).collect();
         Field { side: columns * self.step, dots }
     }
 }

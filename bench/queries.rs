@@ -1,6 +1,6 @@
-// Single queries of square windows: the original's, the port's walk alone, the port's call with the check.
+// Single queries of square windows, of all inks: the original's, the port's walk alone, the port's call with the check.
 use crate::field::{Order, DIAGONAL, PITCH};
-use crate::krakvinge::{Record, Rect, Rows, Settings};
+use crate::krakvinge::{Record, Rect, Rows, Settings, ALL_INKS};
 use crate::original;
 use crate::port;
 use crate::quadtree::AABB;
@@ -13,7 +13,7 @@ const LEAF_LIMITS: [u32; 4] = [4, 8, 16, 64];
 const CELLS: [i32; 4] = [1, 10, 30, 100];
 const WINDOWS: usize = 100;
 
-type Query = fn(&mut Rows, Rect, &mut [u32], &mut [u32]) -> u64;
+type Query = fn(&mut Rows, Rect, u16, &mut [u32], &mut [u32]) -> u64;
 
 // Windows of one size, and the times of all of them.
 struct Questions {
@@ -46,12 +46,12 @@ impl Questions {
         for (query, best) in [(port::query_unchecked as Query, &mut self.walk), (Rows::query, &mut self.checked)] {
             let mut answer = [0; 2];
             for (&window, wanted) in self.windows.iter().zip(&wanted) {
-                assert_eq!(query(rows, window, ids, &mut answer), 0);
+                assert_eq!(query(rows, window, ALL_INKS, ids, &mut answer), 0);
                 assert!(ids[..answer[0] as usize] == wanted[..], "other ids in {window:?}");
             }
             best.time(|| {
                 for &window in &self.windows {
-                    black_box(query(rows, window, ids, &mut answer));
+                    black_box(query(rows, window, ALL_INKS, ids, &mut answer));
                 }
             });
         }

@@ -1,4 +1,4 @@
-/* A worked example for a C host: a film of 16 by 16, three dots, a window, and what is refused. */
+/* A worked example for a C host: a film of 16 by 16, three dots of two inks, a window, and what is refused. */
 #include "krakvinge.h"
 #include <inttypes.h>
 #include <stdio.h>
@@ -17,17 +17,17 @@ static uint32_t answer[KRAKVINGE_ANSWER_WORDS];
 #define TREE state, WORDS(state), nodes, WORDS(nodes), dots, WORDS(dots), rects, WORDS(rects), marks, WORDS(marks)
 #define ANSWER answer, WORDS(answer)
 
-static void insert(uint32_t id, int32_t x1, int32_t y1, int32_t x2, int32_t y2) {
-    uint64_t result = krakvinge_insert(TREE, id, x1, y1, x2, y2, ANSWER);
+static void insert(uint32_t id, int32_t x1, int32_t y1, int32_t x2, int32_t y2, uint32_t ink) {
+    uint64_t result = krakvinge_insert(TREE, id, x1, y1, x2, y2, ink, ANSWER);
     if (result == 0)
         printf("insert %" PRIu32 ": %" PRIu32 " splits\n", id, answer[0]);
     else
         printf("insert %" PRIu32 ": refusal %" PRIu32 ": %s\n", id, KRAKVINGE_REFUSAL(result), krakvinge_refusal_text(KRAKVINGE_REFUSAL(result)));
 }
 
-static void query(size_t room) {
+static void query(uint16_t inks, size_t room) {
     uint32_t ids[PLACES] = {0};
-    uint64_t result = krakvinge_query(TREE, 0, 0, 8, 8, ids, room, ANSWER);
+    uint64_t result = krakvinge_query(TREE, 0, 0, 8, 8, inks, ids, room, ANSWER);
     if (result != 0) {
         printf("query: refusal %" PRIu32 ": the row is too short for %" PRIu32 " answers\n", KRAKVINGE_REFUSAL(result), KRAKVINGE_WANTED(result));
         return;
@@ -41,7 +41,8 @@ static void query(size_t room) {
 static uint64_t batch(void) {
     const uint32_t minus_1 = UINT32_MAX;
     const uint32_t records[] = {
-        KRAKVINGE_INSERT, 5, 3, 3, 4, 4, KRAKVINGE_INSERT, 6, minus_1, minus_1, 0, 0, KRAKVINGE_REMOVE, 5, 3, 3, 4, 4, KRAKVINGE_CLEANUP, 0, 0, 0, 0, 0,
+        KRAKVINGE_INSERT, 5, 3, 3, 4, 4, 3, KRAKVINGE_INSERT, 6, minus_1, minus_1, 0, 0, 3,
+        KRAKVINGE_REMOVE, 5, 3, 3, 4, 4, 0, KRAKVINGE_CLEANUP, 0, 0, 0, 0, 0, 0,
     };
     uint32_t answers[WORDS(records) / KRAKVINGE_RECORD_WORDS];
     uint64_t result = krakvinge_batch(TREE, records, WORDS(records), answers, WORDS(answers));
@@ -56,12 +57,14 @@ int main(void) {
     int32_t row[24] = {0};
     uint32_t ids[PLACES] = {0};
     uint64_t refused = krakvinge_make(TREE);
-    insert(1, 1, 1, 2, 2);
-    insert(2, 9, 1, 10, 2);
-    insert(3, 7, 7, 9, 9);
-    insert(4, 16, 16, 18, 18);
-    query(PLACES);
-    query(1);
+    insert(1, 1, 1, 2, 2, 0);
+    insert(2, 9, 1, 10, 2, 0);
+    insert(3, 7, 7, 9, 9, 3);
+    insert(4, 16, 16, 18, 18, 3);
+    insert(4, 1, 1, 2, 2, 16);
+    query(KRAKVINGE_ALL_INKS, PLACES);
+    query(1 << 3, PLACES);
+    query(KRAKVINGE_ALL_INKS, 1);
     refused |= krakvinge_leaves(TREE, row, WORDS(row), ANSWER);
     printf("leaves: %" PRIu32 ", the first [%d, %d, %d, %d, %d, %d]\n", answer[0], row[0], row[1], row[2], row[3], row[4], row[5]);
     refused |= krakvinge_all(TREE, ids, WORDS(ids), ANSWER);

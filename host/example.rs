@@ -1,23 +1,27 @@
-// A worked example for a Rust host: a film of 16 by 16, three dots, a window, and what is refused.
+// A worked example for a Rust host: a film of 16 by 16, three dots of two inks, a window, and what is refused.
 #[path = "rust/krakvinge.rs"]
 #[allow(dead_code)]
 mod krakvinge;
 
-use krakvinge::{Record, Refused, Settings, Tree};
+use krakvinge::{Record, Refused, Settings, Tree, ALL_INKS};
 
 fn run() -> Result<(), Refused> {
     let settings = Settings { left: 0, top: 0, width: 16, height: 16, depth_limit: 2, leaf_limit: 2, smallest_cell: 1 };
     let mut film = Tree::new(&settings, 4, 8)?;
-    for (id, rect) in [(1, [1, 1, 2, 2]), (2, [9, 1, 10, 2]), (3, [7, 7, 9, 9])] {
-        println!("insert {id}: {} splits", film.insert(id, rect)?);
+    for (id, rect, ink) in [(1, [1, 1, 2, 2], 0), (2, [9, 1, 10, 2], 0), (3, [7, 7, 9, 9], 3)] {
+        println!("insert {id}: {} splits", film.insert(id, rect, ink)?);
     }
-    if let Err(refused) = film.insert(4, [16, 16, 18, 18]) {
-        println!("insert 4: {refused}");
+    for (rect, ink) in [([16, 16, 18, 18], 3), ([1, 1, 2, 2], 16)] {
+        if let Err(refused) = film.insert(4, rect, ink) {
+            println!("insert 4: {refused}");
+        }
     }
     let mut ids = [0; 8];
-    let listed = film.query([0, 0, 8, 8], &mut ids)?;
-    println!("query: ids {:?}, {} nodes opened", &ids[..listed.hits], listed.opened);
-    if let Err(refused) = film.query([0, 0, 8, 8], &mut ids[..1]) {
+    for inks in [ALL_INKS, 1 << 3] {
+        let listed = film.query([0, 0, 8, 8], inks, &mut ids)?;
+        println!("query: ids {:?}, {} nodes opened", &ids[..listed.hits], listed.opened);
+    }
+    if let Err(refused) = film.query([0, 0, 8, 8], ALL_INKS, &mut ids[..1]) {
         println!("query: {refused}");
     }
     let mut row = [0; 24];
@@ -28,7 +32,7 @@ fn run() -> Result<(), Refused> {
     println!("cleanup: {}", film.cleanup()?);
     println!("references: {}", film.references()?);
     println!("live: {}", film.live());
-    let records = [Record::insert(5, [3, 3, 4, 4]), Record::insert(6, [-1, -1, 0, 0]), Record::remove(5, [3, 3, 4, 4]), Record::cleanup()];
+    let records = [Record::insert(5, [3, 3, 4, 4], 3), Record::insert(6, [-1, -1, 0, 0], 3), Record::remove(5, [3, 3, 4, 4]), Record::cleanup()];
     let mut answers = [0; 4];
     film.batch(&records, &mut answers)?;
     for (i, word) in answers.into_iter().enumerate() {

@@ -3,8 +3,9 @@
  * Each row is a pointer and its length in words. The lengths, for G groups (0 to 16384) and N places (0 to 65536):
  *     state    10 words: the root's left, top, width and height; the two limits (depth, leaf) and the smallest cell; free group, free place, live;
  *              a negative number has 4294967296 added
- *     nodes    2 + 10 G words        dots    2 N words        rects   4 N words        marks   N + G bytes
+ *     nodes    2 + 10 G words        dots    3 N words        rects   4 N words        marks   N + G bytes
  *     answer   2 words
+ * A dot has an ink from 0 to 15, and a query a mask of inks, bit k for ink k (KRAKVINGE_ALL_INKS).
  * krakvinge_make reads the first seven words of the state and writes the others; from then on the rows belong to the calls.
  *
  * What a host must see to: each row is memory of its length that the call may read (and, where the pointer is not const, write), aligned for its
@@ -27,15 +28,18 @@
 extern "C" {
 #endif
 
-#define KRAKVINGE_VERSION "0.2.0"
+#define KRAKVINGE_VERSION "0.3.0"
 
 #define KRAKVINGE_STATE_WORDS 10
 #define KRAKVINGE_ANSWER_WORDS 2
-#define KRAKVINGE_RECORD_WORDS 6
+#define KRAKVINGE_RECORD_WORDS 7
 #define KRAKVINGE_NODE_WORDS(groups) (2 + 10 * (size_t)(groups))
-#define KRAKVINGE_DOT_WORDS(places) (2 * (size_t)(places))
+#define KRAKVINGE_DOT_WORDS(places) (3 * (size_t)(places))
 #define KRAKVINGE_RECT_WORDS(places) (4 * (size_t)(places))
 #define KRAKVINGE_MARK_BYTES(groups, places) ((size_t)(groups) + (size_t)(places))
+
+/* The mask of a query that lists every ink. */
+#define KRAKVINGE_ALL_INKS 65535
 
 /* The words of so many leaves in the row of krakvinge_leaves. */
 #define KRAKVINGE_LEAF_WORDS(leaves) (6 * (size_t)(leaves))
@@ -55,6 +59,7 @@ enum krakvinge_refusal {
     KRAKVINGE_NO_GROUP = 7,
     KRAKVINGE_ROW_TOO_SHORT = 8,
     KRAKVINGE_UNKNOWN_KIND = 9,
+    KRAKVINGE_BAD_INK = 10,
 };
 
 static inline const char *krakvinge_refusal_text(uint32_t refusal) {
@@ -69,6 +74,7 @@ static inline const char *krakvinge_refusal_text(uint32_t refusal) {
     case KRAKVINGE_NO_GROUP: return "the splits need more groups than are free";
     case KRAKVINGE_ROW_TOO_SHORT: return "the row is too short for the answers";
     case KRAKVINGE_UNKNOWN_KIND: return "the record is of no known kind";
+    case KRAKVINGE_BAD_INK: return "the ink is above 15";
     default: return "no refusal of this library";
     }
 }
@@ -84,8 +90,9 @@ uint64_t krakvinge_make(uint32_t *state, size_t state_words, uint32_t *nodes, si
 
 uint64_t krakvinge_insert(uint32_t *state, size_t state_words, uint32_t *nodes, size_t node_words, uint32_t *dots, size_t dot_words,
                           int32_t *rects, size_t rect_words, uint8_t *marks, size_t mark_bytes, uint32_t id, int32_t x1, int32_t y1,
-                          int32_t x2, int32_t y2, uint32_t *answer, size_t answer_words);
+                          int32_t x2, int32_t y2, uint32_t ink, uint32_t *answer, size_t answer_words);
 
+/* By its id, whatever ink the dot has. */
 uint64_t krakvinge_remove(uint32_t *state, size_t state_words, uint32_t *nodes, size_t node_words, uint32_t *dots, size_t dot_words,
                           int32_t *rects, size_t rect_words, uint8_t *marks, size_t mark_bytes, uint32_t id, int32_t x1, int32_t y1,
                           int32_t x2, int32_t y2, uint32_t *answer, size_t answer_words);
@@ -93,19 +100,21 @@ uint64_t krakvinge_remove(uint32_t *state, size_t state_words, uint32_t *nodes, 
 uint64_t krakvinge_cleanup(uint32_t *state, size_t state_words, uint32_t *nodes, size_t node_words, const uint32_t *dots, size_t dot_words,
                            const int32_t *rects, size_t rect_words, uint8_t *marks, size_t mark_bytes, uint32_t *answer, size_t answer_words);
 
-/* Carries out the records in order, with one check: six words a record, kind, id, x1, y1, x2, y2, a negative number with 4294967296 added. Each has
- * a word in a row of answers as long: splits, 1 or 0, or 4294967040 + refusal, 9 for another kind. A refused record changes nothing else, and those
- * after it go on. A refused batch (1 for rows of other lengths, 2, 3) leaves the answers as they were. */
+/* Carries out the records in order, with one check: seven words a record, kind, id, x1, y1, x2, y2, ink, a negative number with 4294967296 added. The
+ * ink of a record that is no insert is not looked at. Each record has a word in a row of answers as long: splits, 1 or 0, or 4294967040 + refusal,
+ * 9 for another kind. A refused record changes nothing else, and those after it go on. A refused batch (1 for rows of other lengths, 2, 3) leaves
+ * the answers as they were. */
 uint64_t krakvinge_batch(uint32_t *state, size_t state_words, uint32_t *nodes, size_t node_words, uint32_t *dots, size_t dot_words,
                          int32_t *rects, size_t rect_words, uint8_t *marks, size_t mark_bytes, const uint32_t *records, size_t record_words,
                          uint32_t *answers, size_t answer_words);
 
-/* The ids stand in the row's first words; a longer row keeps its tail. */
+/* The dots of the inks in the mask. Their ids stand in the row's first words; a longer row keeps its tail. The nodes opened are the same for every
+ * mask. */
 uint64_t krakvinge_query(const uint32_t *state, size_t state_words, const uint32_t *nodes, size_t node_words, const uint32_t *dots,
                          size_t dot_words, const int32_t *rects, size_t rect_words, uint8_t *marks, size_t mark_bytes, int32_t x1, int32_t y1,
-                         int32_t x2, int32_t y2, uint32_t *ids, size_t id_words, uint32_t *answer, size_t answer_words);
+                         int32_t x2, int32_t y2, uint16_t inks, uint32_t *ids, size_t id_words, uint32_t *answer, size_t answer_words);
 
-/* A query with the root's rectangle. */
+/* A query of all inks with the root's rectangle. */
 uint64_t krakvinge_all(const uint32_t *state, size_t state_words, const uint32_t *nodes, size_t node_words, const uint32_t *dots,
                        size_t dot_words, const int32_t *rects, size_t rect_words, uint8_t *marks, size_t mark_bytes, uint32_t *ids,
                        size_t id_words, uint32_t *answer, size_t answer_words);

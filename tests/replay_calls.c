@@ -1,6 +1,7 @@
 /* Replays recorded calls against the host's static library: replay_calls FILE. A line is 'tree', settings, groups and places, for a fresh tree;
  * or a call, '=', its result and, where it was accepted, the two words of its answer and those that it listed; or 'nodes', 'dots' or 'freegroups',
- * '=', and the words of the memory or the free groups' numbers at this point. A recorded word '_' stands for any. */
+ * '=', and the words of the memory or the free groups' numbers at this point. A recorded word '_' stands for any.
+ * The numbers of a call: insert id x1 y1 x2 y2 ink; remove id x1 y1 x2 y2; query x1 y1 x2 y2 mask room; all and leaves room. */
 #include "../host/krakvinge.h"
 #include <inttypes.h>
 #include <stdbool.h>
@@ -42,25 +43,35 @@ static bool make(const long long *n, int count) {
     return krakvinge_make(TREE) == 0;
 }
 
-/* The words of the row that a call is lent, of a call that is lent one; a kind of another count of numbers is none. */
+/* How many numbers a call of the kind has; -1 for no call. */
+static int count_of(const char *kind) {
+    if (strcmp(kind, "insert") == 0 || strcmp(kind, "query") == 0)
+        return 6;
+    if (strcmp(kind, "remove") == 0)
+        return 5;
+    if (strcmp(kind, "all") == 0 || strcmp(kind, "leaves") == 0)
+        return 1;
+    return strcmp(kind, "cleanup") == 0 || strcmp(kind, "references") == 0 ? 0 : -1;
+}
+
+/* The words of the row that a call is lent; false for no call, another count of numbers, or a mask or row too large. */
 static bool room_of(const char *kind, const long long *n, int count, size_t *room) {
-    bool lists = strcmp(kind, "all") == 0 || strcmp(kind, "leaves") == 0;
     bool query = strcmp(kind, "query") == 0;
-    bool dot = strcmp(kind, "insert") == 0 || strcmp(kind, "remove") == 0;
-    bool plain = strcmp(kind, "cleanup") == 0 || strcmp(kind, "references") == 0;
-    *room = lists && count == 1 ? (size_t)n[0] : query && count == 5 ? (size_t)n[4] : 0;
-    return *room <= ROW && ((lists && count == 1) || (query && count == 5) || (dot && count == 5) || (plain && count == 0));
+    if (count != count_of(kind) || (query && (n[4] < 0 || n[4] > KRAKVINGE_ALL_INKS)))
+        return false;
+    *room = query ? (size_t)n[5] : count == 1 ? (size_t)n[0] : 0;
+    return *room <= ROW;
 }
 
 static uint64_t call(const char *kind, const long long *n, size_t room) {
     if (strcmp(kind, "insert") == 0)
-        return krakvinge_insert(TREE, (uint32_t)n[0], RECT(n + 1), ANSWER);
+        return krakvinge_insert(TREE, (uint32_t)n[0], RECT(n + 1), (uint32_t)n[5], ANSWER);
     if (strcmp(kind, "remove") == 0)
         return krakvinge_remove(TREE, (uint32_t)n[0], RECT(n + 1), ANSWER);
     if (strcmp(kind, "cleanup") == 0)
         return krakvinge_cleanup(TREE, ANSWER);
     if (strcmp(kind, "query") == 0)
-        return krakvinge_query(TREE, RECT(n), ids, room, ANSWER);
+        return krakvinge_query(TREE, RECT(n), (uint16_t)n[4], ids, room, ANSWER);
     if (strcmp(kind, "all") == 0)
         return krakvinge_all(TREE, ids, room, ANSWER);
     if (strcmp(kind, "leaves") == 0)

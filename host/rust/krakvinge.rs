@@ -3,6 +3,9 @@
 
 pub type Rect = [i32; 4];
 
+/// The mask of a query that lists every ink: bit k is for ink k, 0 to 15.
+pub const ALL_INKS: u16 = 65535;
+
 #[derive(Clone, Copy, PartialEq, Eq, Debug)]
 pub struct Settings {
     pub left: i32,
@@ -32,6 +35,7 @@ impl std::fmt::Display for Refused {
             6 => "no place is free",
             7 => "the splits need more groups than are free",
             8 => return write!(f, "refusal 8: the row is too short for {} answers", self.wanted),
+            10 => "the ink is above 15",
             _ => "no refusal of this library",
         };
         write!(f, "refusal {}: {why}", self.number)
@@ -47,32 +51,33 @@ pub struct Listed {
     pub opened: u32,
 }
 
-/// A record of a batch, as its six 32-bit words. A cleanup's id and rectangle mean nothing.
+/// A record of a batch, as its seven 32-bit words. A cleanup's id and rectangle mean nothing, nor does the ink of a record that is no insert.
 #[repr(C)]
 #[derive(Clone, Copy, PartialEq, Eq, Debug)]
 pub struct Record {
     pub kind: u32,
     pub id: u32,
     pub rect: Rect,
+    pub ink: u32,
 }
 
 impl Record {
-    pub fn insert(id: u32, rect: Rect) -> Record {
-        Record { kind: 0, id, rect }
+    pub fn insert(id: u32, rect: Rect, ink: u32) -> Record {
+        Record { kind: 0, id, rect, ink }
     }
 
     pub fn remove(id: u32, rect: Rect) -> Record {
-        Record { kind: 1, id, rect }
+        Record { kind: 1, id, rect, ink: 0 }
     }
 
     pub fn cleanup() -> Record {
-        Record { kind: 2, id: 0, rect: [0; 4] }
+        Record { kind: 2, id: 0, rect: [0; 4], ink: 0 }
     }
 
     /// The words of a row of records.
     pub fn words(records: &[Record]) -> &[u32] {
-        // a record is six 32-bit words without padding, aligned as they are
-        unsafe { std::slice::from_raw_parts(records.as_ptr().cast(), 6 * records.len()) }
+        // a record is seven 32-bit words without padding, aligned as they are
+        unsafe { std::slice::from_raw_parts(records.as_ptr().cast(), 7 * records.len()) }
     }
 
     /// The refusal in an answer word; else the word is the splits, or 1 or 0.
@@ -86,11 +91,11 @@ impl Record {
 pub mod raw {
     extern "C" {
         pub fn krakvinge_make(s: *mut u32, sn: usize, n: *mut u32, nn: usize, d: *mut u32, dn: usize, r: *mut i32, rn: usize, m: *mut u8, mn: usize) -> u64;
-        pub fn krakvinge_insert(s: *mut u32, sn: usize, n: *mut u32, nn: usize, d: *mut u32, dn: usize, r: *mut i32, rn: usize, m: *mut u8, mn: usize, id: u32, x1: i32, y1: i32, x2: i32, y2: i32, a: *mut u32, an: usize) -> u64;
+        pub fn krakvinge_insert(s: *mut u32, sn: usize, n: *mut u32, nn: usize, d: *mut u32, dn: usize, r: *mut i32, rn: usize, m: *mut u8, mn: usize, id: u32, x1: i32, y1: i32, x2: i32, y2: i32, ink: u32, a: *mut u32, an: usize) -> u64;
         pub fn krakvinge_remove(s: *mut u32, sn: usize, n: *mut u32, nn: usize, d: *mut u32, dn: usize, r: *mut i32, rn: usize, m: *mut u8, mn: usize, id: u32, x1: i32, y1: i32, x2: i32, y2: i32, a: *mut u32, an: usize) -> u64;
         pub fn krakvinge_cleanup(s: *mut u32, sn: usize, n: *mut u32, nn: usize, d: *const u32, dn: usize, r: *const i32, rn: usize, m: *mut u8, mn: usize, a: *mut u32, an: usize) -> u64;
         pub fn krakvinge_batch(s: *mut u32, sn: usize, n: *mut u32, nn: usize, d: *mut u32, dn: usize, r: *mut i32, rn: usize, m: *mut u8, mn: usize, w: *const u32, wn: usize, a: *mut u32, an: usize) -> u64;
-        pub fn krakvinge_query(s: *const u32, sn: usize, n: *const u32, nn: usize, d: *const u32, dn: usize, r: *const i32, rn: usize, m: *mut u8, mn: usize, x1: i32, y1: i32, x2: i32, y2: i32, i: *mut u32, il: usize, a: *mut u32, an: usize) -> u64;
+        pub fn krakvinge_query(s: *const u32, sn: usize, n: *const u32, nn: usize, d: *const u32, dn: usize, r: *const i32, rn: usize, m: *mut u8, mn: usize, x1: i32, y1: i32, x2: i32, y2: i32, inks: u16, i: *mut u32, il: usize, a: *mut u32, an: usize) -> u64;
         pub fn krakvinge_all(s: *const u32, sn: usize, n: *const u32, nn: usize, d: *const u32, dn: usize, r: *const i32, rn: usize, m: *mut u8, mn: usize, i: *mut u32, il: usize, a: *mut u32, an: usize) -> u64;
         pub fn krakvinge_leaves(s: *const u32, sn: usize, n: *const u32, nn: usize, d: *const u32, dn: usize, r: *const i32, rn: usize, m: *mut u8, mn: usize, w: *mut i32, wn: usize, a: *mut u32, an: usize) -> u64;
         pub fn krakvinge_references(s: *const u32, sn: usize, n: *const u32, nn: usize, d: *const u32, dn: usize, r: *const i32, rn: usize, m: *mut u8, mn: usize, a: *mut u32, an: usize) -> u64;
@@ -113,7 +118,7 @@ impl Rows {
         let root = [s.left as u32, s.top as u32, s.width as u32, s.height as u32];
         let mut state = root.to_vec();
         state.extend([s.depth_limit, s.leaf_limit, s.smallest_cell, 0, 0, 0]);
-        Rows { state, nodes: vec![0; 2 + 10 * groups], dots: vec![0; 2 * places], rects: vec![0; 4 * places], marks: vec![0; places + groups] }
+        Rows { state, nodes: vec![0; 2 + 10 * groups], dots: vec![0; 3 * places], rects: vec![0; 4 * places], marks: vec![0; places + groups] }
     }
 
     pub fn make(&mut self) -> u64 {
@@ -121,12 +126,12 @@ impl Rows {
         unsafe { raw::krakvinge_make(s.as_mut_ptr(), s.len(), n.as_mut_ptr(), n.len(), d.as_mut_ptr(), d.len(), r.as_mut_ptr(), r.len(), m.as_mut_ptr(), m.len()) }
     }
 
-    pub fn insert(&mut self, id: u32, [x1, y1, x2, y2]: Rect, a: &mut [u32]) -> u64 {
+    pub fn insert(&mut self, id: u32, [x1, y1, x2, y2]: Rect, ink: u32, a: &mut [u32]) -> u64 {
         let Rows { state: s, nodes: n, dots: d, rects: r, marks: m } = self;
         unsafe {
             raw::krakvinge_insert(
                 s.as_mut_ptr(), s.len(), n.as_mut_ptr(), n.len(), d.as_mut_ptr(), d.len(), r.as_mut_ptr(), r.len(), m.as_mut_ptr(), m.len(),
-                id, x1, y1, x2, y2, a.as_mut_ptr(), a.len(),
+                id, x1, y1, x2, y2, ink, a.as_mut_ptr(), a.len(),
             )
         }
     }
@@ -146,7 +151,7 @@ impl Rows {
         unsafe { raw::krakvinge_cleanup(s.as_mut_ptr(), s.len(), n.as_mut_ptr(), n.len(), d.as_ptr(), d.len(), r.as_ptr(), r.len(), m.as_mut_ptr(), m.len(), a.as_mut_ptr(), a.len()) }
     }
 
-    /// The records as words, six each.
+    /// The records as words, seven each.
     pub fn batch(&mut self, w: &[u32], a: &mut [u32]) -> u64 {
         let Rows { state: s, nodes: n, dots: d, rects: r, marks: m } = self;
         unsafe {
@@ -157,12 +162,12 @@ impl Rows {
         }
     }
 
-    pub fn query(&mut self, [x1, y1, x2, y2]: Rect, ids: &mut [u32], a: &mut [u32]) -> u64 {
+    pub fn query(&mut self, [x1, y1, x2, y2]: Rect, inks: u16, ids: &mut [u32], a: &mut [u32]) -> u64 {
         let Rows { state: s, nodes: n, dots: d, rects: r, marks: m } = self;
         unsafe {
             raw::krakvinge_query(
                 s.as_ptr(), s.len(), n.as_ptr(), n.len(), d.as_ptr(), d.len(), r.as_ptr(), r.len(), m.as_mut_ptr(), m.len(),
-                x1, y1, x2, y2, ids.as_mut_ptr(), ids.len(), a.as_mut_ptr(), a.len(),
+                x1, y1, x2, y2, inks, ids.as_mut_ptr(), ids.len(), a.as_mut_ptr(), a.len(),
             )
         }
     }
@@ -220,9 +225,9 @@ impl Tree {
         self.rows.state[9]
     }
 
-    /// Answers the number of splits.
-    pub fn insert(&mut self, id: u32, rect: Rect) -> Result<u32, Refused> {
-        let result = self.rows.insert(id, rect, &mut self.answer);
+    /// Answers the number of splits. An ink is from 0 to 15.
+    pub fn insert(&mut self, id: u32, rect: Rect, ink: u32) -> Result<u32, Refused> {
+        let result = self.rows.insert(id, rect, ink, &mut self.answer);
         Ok(self.accepted(result)?[0])
     }
 
@@ -243,12 +248,14 @@ impl Tree {
         Ok(())
     }
 
-    pub fn query(&mut self, rect: Rect, ids: &mut [u32]) -> Result<Listed, Refused> {
-        let result = self.rows.query(rect, ids, &mut self.answer);
+    /// Lists the dots of the inks in the mask, bit k for ink k.
+    pub fn query(&mut self, rect: Rect, inks: u16, ids: &mut [u32]) -> Result<Listed, Refused> {
+        let result = self.rows.query(rect, inks, ids, &mut self.answer);
         let [hits, opened] = self.accepted(result)?;
         Ok(Listed { hits: hits as usize, opened })
     }
 
+    /// Of all inks.
     pub fn all(&mut self, ids: &mut [u32]) -> Result<Listed, Refused> {
         let result = self.rows.all(ids, &mut self.answer);
         let [hits, opened] = self.accepted(result)?;

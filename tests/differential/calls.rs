@@ -4,13 +4,13 @@ use std::fmt;
 pub type Rect = [i32; 4];
 pub use crate::krakvinge::Settings;
 
-// A query's and a leaves' room is the length of the row that is lent, in words.
+// An insert ends in its ink. A query has a mask of inks; its and a leaves' room is the length of the row that is lent, in words.
 #[derive(Clone, Copy, PartialEq, Debug)]
 pub enum Call {
-    Insert(u32, Rect),
+    Insert(u32, Rect, u32),
     Remove(u32, Rect),
     Cleanup,
-    Query(Rect, usize),
+    Query(Rect, u16, usize),
     Leaves(usize),
     All(usize),
     References,
@@ -34,7 +34,7 @@ impl Call {
     // The words of the row that is lent.
     pub fn room(&self) -> usize {
         match self {
-            Call::Query(_, room) | Call::Leaves(room) | Call::All(room) => *room,
+            Call::Query(_, _, room) | Call::Leaves(room) | Call::All(room) => *room,
             _ => 0,
         }
     }
@@ -44,8 +44,9 @@ impl fmt::Display for Call {
     fn fmt(&self, f: &mut fmt::Formatter) -> fmt::Result {
         let kind = KINDS[self.kind()];
         match self {
-            Call::Insert(id, [x1, y1, x2, y2]) | Call::Remove(id, [x1, y1, x2, y2]) => write!(f, "{kind} {id} {x1} {y1} {x2} {y2}"),
-            Call::Query([x1, y1, x2, y2], room) => write!(f, "{kind} {x1} {y1} {x2} {y2} {room}"),
+            Call::Insert(id, [x1, y1, x2, y2], ink) => write!(f, "{kind} {id} {x1} {y1} {x2} {y2} {ink}"),
+            Call::Remove(id, [x1, y1, x2, y2]) => write!(f, "{kind} {id} {x1} {y1} {x2} {y2}"),
+            Call::Query([x1, y1, x2, y2], inks, room) => write!(f, "{kind} {x1} {y1} {x2} {y2} {inks} {room}"),
             Call::Leaves(room) | Call::All(room) => write!(f, "{kind} {room}"),
             Call::Cleanup | Call::References => write!(f, "{kind}"),
         }

@@ -1,5 +1,5 @@
 // A list on both sides: every answer after every call, and the tree now and then. A list that differs is made smaller.
-use crate::calls::{Answer, Call, List};
+use crate::calls::{Answer, Call, List, Rect};
 use crate::faults::Fault;
 use crate::krakvinge::Rows;
 use crate::original::{Original, BRANCH, NONE};
@@ -11,7 +11,7 @@ pub struct Difference {
     pub text: String,
 }
 
-// Every reachable node's words and every leaf's chain of ids and rectangles. Group numbers agree; place numbers may not.
+// Every reachable node's words and every leaf's chain of ids, rectangles and inks. Group numbers agree; place numbers may not.
 fn trees_differ(original: &Original, rows: &Rows) -> Option<String> {
     let mut waiting = vec![0];
     let mut left = rows.nodes.len() / 2;
@@ -30,7 +30,7 @@ fn trees_differ(original: &Original, rows: &Rows) -> Option<String> {
             waiting.extend((0..5).map(|i| theirs[0] + i));
             continue;
         }
-        let (chain, mine) = (original.tree.chain(node), chain(rows, ours[0]));
+        let (chain, mine) = (original.chain(node), chain(rows, ours[0]));
         if chain != mine {
             return Some(format!("the chain at node {node}: the original holds {chain:?}, the port {mine:?}"));
         }
@@ -38,13 +38,13 @@ fn trees_differ(original: &Original, rows: &Rows) -> Option<String> {
     None
 }
 
-fn chain(rows: &Rows, head: u32) -> Vec<(u32, [i32; 4])> {
+fn chain(rows: &Rows, head: u32) -> Vec<(u32, Rect, u32)> {
     let (mut at, mut chain) = (head, vec![]);
     while at != NONE && chain.len() <= rows.dots.len() {
         let p = at as usize;
-        let r = &rows.rects[4 * p..4 * p + 4];
-        chain.push((rows.dots[2 * p], [r[0], r[1], r[2], r[3]]));
-        at = rows.dots[2 * p + 1];
+        let (dot, r) = (&rows.dots[3 * p..3 * p + 3], &rows.rects[4 * p..4 * p + 4]);
+        chain.push((dot[0], [r[0], r[1], r[2], r[3]], dot[2]));
+        at = dot[1];
     }
     chain
 }
@@ -61,6 +61,22 @@ fn free_groups_differ(original: &Original, rows: &Rows) -> Option<String> {
     (theirs != ours).then(|| format!("free groups: the original's are {theirs:?}, the port's {ours:?}"))
 }
 
+// The free places: as many as the live dots leave, and nothing in them.
+fn free_places_differ(original: &Original, rows: &Rows) -> Option<String> {
+    let places = rows.rects.len() / 4;
+    let (mut at, mut left) = (rows.state[8], places - original.live());
+    while (at as usize) < places && left > 0 {
+        let p = at as usize;
+        let (dot, rect) = (&rows.dots[3 * p..3 * p + 3], &rows.rects[4 * p..4 * p + 4]);
+        if dot[0] != 0 || dot[2] != 0 || *rect != [0; 4] {
+            return Some(format!("the free place {at} holds {dot:?} and {rect:?}"));
+        }
+        at = dot[1];
+        left -= 1;
+    }
+    (at != NONE || left > 0).then(|| format!("the free places end at {at}, {left} early"))
+}
+
 // The state's words but the free place, and the marks.
 fn state_differs(list: &List, original: &Original, rows: &Rows) -> Option<String> {
     let fresh = Rows::new(&list.settings, 0, 0).state;
@@ -71,19 +87,20 @@ fn state_differs(list: &List, original: &Original, rows: &Rows) -> Option<String
     rows.marks.iter().any(|m| *m != 0).then(|| "a mark is left".to_string())
 }
 
-// Both sides through a list. `tell` hears each call with its answer.
-pub fn differ(list: &List, fault: Fault, every: usize, mut tell: impl FnMut(&Call, &Answer)) -> Option<Difference> {
+// Both sides through a list. `tell` hears each call with its answer and, of a query, how many dots its mask left out.
+pub fn differ(list: &List, fault: Fault, every: usize, mut tell: impl FnMut(&Call, &Answer, usize)) -> Option<Difference> {
     let (mut original, mut port) = (Original::new(list), Port::new(list, fault));
     for (at, call) in list.calls.iter().enumerate() {
         let (theirs, ours) = (original.answer(call), port.answer(call));
-        tell(call, &theirs);
+        tell(call, &theirs, original.hidden());
         let whole = at % every == 0 || at + 1 == list.calls.len();
         let mut text = (theirs != ours).then(|| format!("the original: {theirs:?}, the port: {ours:?}"));
         text = text.or_else(|| state_differs(list, &original, &port.rows));
         if whole && text.is_none() {
             let mut rows = port.rows.clone();
             fault.spoil_rows(&mut rows);
-            text = trees_differ(&original, &rows).or_else(|| free_groups_differ(&original, &rows));
+            text = trees_differ(&original, &rows);
+            text = text.or_else(|| free_groups_differ(&original, &rows)).or_else(|| free_places_differ(&original, &rows));
         }
         if let Some(text) = text {
             return Some(Difference { at, text });
@@ -95,7 +112,7 @@ pub fn differ(list: &List, fault: Fault, every: usize, mut tell: impl FnMut(&Cal
 // Calls are taken out, many at once at first, while the list still differs.
 pub fn shrink(list: &List, fault: Fault) -> (List, Difference) {
     let mut small = list.clone();
-    let mut last = differ(&small, fault, 1, |_, _| {}).expect("the list differs");
+    let mut last = differ(&small, fault, 1, |_, _, _| {}).expect("the list differs");
     small.calls.truncate(last.at + 1);
     let mut size = small.calls.len() / 2;
     while size > 0 {
@@ -103,7 +120,7 @@ pub fn shrink(list: &List, fault: Fault) -> (List, Difference) {
         while from < small.calls.len() {
             let mut fewer = small.clone();
             fewer.calls.drain(from..(from + size).min(small.calls.len()));
-            match differ(&fewer, fault, 1, |_, _| {}) {
+            match differ(&fewer, fault, 1, |_, _, _| {}) {
                 Some(difference) => {
                     fewer.calls.truncate(difference.at + 1);
                     (small, last) = (fewer, difference);

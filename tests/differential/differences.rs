@@ -1,6 +1,6 @@
 // The rows of docs/DIFFERENCES.md, each by its smallest input on both sides.
 use crate::calls::{Rect, Settings};
-use crate::krakvinge::{Refused, Rows, Tree};
+use crate::krakvinge::{Refused, Rows, Tree, ALL_INKS};
 use crate::quadtree::quad_rect::QuadRect;
 use crate::quadtree::quadtree::{QuadTree, QuadTreeElement};
 use crate::quadtree::AABB;
@@ -17,7 +17,7 @@ fn takes(tree: &mut QuadTree<u32>, id: u32, rect: Rect) -> bool {
 
 fn refused_insert(rect: Rect) -> u32 {
     let mut tree = Tree::new(&ROOT, 4, 4).expect("the settings are in range");
-    tree.insert(1, rect).map_or_else(|refused| refused.number, |_| 0)
+    tree.insert(1, rect, 0).map_or_else(|refused| refused.number, |_| 0)
 }
 
 fn refused_make(s: &Settings) -> u64 {
@@ -34,7 +34,7 @@ fn freed_places() -> bool {
             if round == 1 {
                 accepted &= theirs.remove(&QuadTreeElement::new(id, AABB::from(rect(id)))) && ours.remove(id, rect(id)) == Ok(true);
             } else {
-                accepted &= takes(&mut theirs, id, rect(id)) && ours.insert(id, rect(id)).is_ok();
+                accepted &= takes(&mut theirs, id, rect(id)) && ours.insert(id, rect(id), 0).is_ok();
             }
         }
     }
@@ -88,25 +88,31 @@ fn number<A>(answer: Result<A, Refused>) -> u32 {
 // No place at all: the original makes one.
 fn no_place() -> bool {
     let mut ours = Tree::new(&ROOT, 0, 0).expect("the settings are in range");
-    takes(&mut original(&ROOT), 1, [1, 1, 2, 2]) && number(ours.insert(1, [1, 1, 2, 2])) == 6
+    takes(&mut original(&ROOT), 1, [1, 1, 2, 2]) && number(ours.insert(1, [1, 1, 2, 2], 0)) == 6
 }
 
 // No group at all, and a second dot in a leaf that holds one.
 fn no_group() -> bool {
     let (mut theirs, mut ours) = (original(&ROOT), Tree::new(&ROOT, 0, 2).expect("the settings are in range"));
-    let first = takes(&mut theirs, 1, [1, 1, 2, 2]) && ours.insert(1, [1, 1, 2, 2]) == Ok(0);
-    first && takes(&mut theirs, 2, [1, 1, 2, 2]) && number(ours.insert(2, [1, 1, 2, 2])) == 7
+    let first = takes(&mut theirs, 1, [1, 1, 2, 2]) && ours.insert(1, [1, 1, 2, 2], 0) == Ok(0);
+    first && takes(&mut theirs, 2, [1, 1, 2, 2]) && number(ours.insert(2, [1, 1, 2, 2], 0)) == 7
 }
 
 // A row of no words, and one dot to list.
 fn short_row() -> bool {
     let (mut theirs, mut ours) = (original(&ROOT), Tree::new(&ROOT, 0, 1).expect("the settings are in range"));
-    let first = takes(&mut theirs, 1, [1, 1, 2, 2]) && ours.insert(1, [1, 1, 2, 2]) == Ok(0);
-    first && theirs.intersect_aabb(&AABB::from([1, 1, 2, 2])).len() == 1 && ours.query([1, 1, 2, 2], &mut []) == Err(Refused { number: 8, wanted: 1 })
+    let first = takes(&mut theirs, 1, [1, 1, 2, 2]) && ours.insert(1, [1, 1, 2, 2], 0) == Ok(0);
+    first && theirs.intersect_aabb(&AABB::from([1, 1, 2, 2])).len() == 1 && ours.query([1, 1, 2, 2], ALL_INKS, &mut []) == Err(Refused { number: 8, wanted: 1 })
+}
+
+// The original has no inks.
+fn ink_above_15() -> bool {
+    let mut ours = Tree::new(&ROOT, 0, 1).expect("the settings are in range");
+    takes(&mut original(&ROOT), 1, [1, 1, 2, 2]) && number(ours.insert(1, [1, 1, 2, 2], 16)) == 10 && ours.insert(1, [1, 1, 2, 2], 15) == Ok(0)
 }
 
 pub fn as_documented() -> bool {
-    let rows: [(&str, fn() -> bool); 10] = [
+    let rows: [(&str, fn() -> bool); 11] = [
         ("freed places", freed_places),
         ("an inverted dot", inverted_dot),
         ("a coordinate beyond 2^30", far_coordinate),
@@ -117,6 +123,7 @@ pub fn as_documented() -> bool {
         ("no free place", no_place),
         ("no free group", no_group),
         ("a row that is too short", short_row),
+        ("an ink above 15", ink_above_15),
     ];
     let wrong: Vec<&str> = rows.iter().filter(|(_, holds)| !holds()).map(|(name, _)| *name).collect();
     println!("differential: {} documented differences hold, of {}{}", rows.len() - wrong.len(), rows.len(), wrong.iter().map(|w| format!("; NOT: {w}")).collect::<String>());

@@ -1,4 +1,4 @@
-// Faults to plant, each one that a wrong port could have.
+// Faults to plant, each one that a wrong port could have. Those that only inks show are the last fifteen (ink_faults.rs has what they do).
 use crate::calls::{Answer, Call};
 use crate::krakvinge::Rows;
 
@@ -32,24 +32,42 @@ pub enum Fault {
     FreeGroup,
     LiveAfterRefusal,
     MarkLeft,
+    MaskOffByOne,
+    MaskIgnored,
+    MaskShowsInk0,
+    AllOfInk0,
+    OpenedByMask,
+    RoomForAllInks,
+    InkDropped,
+    Ink15Refused,
+    Ink16Taken,
+    InkTestedBefore4,
+    InkTestedLast,
+    RemoveOfInk0,
+    RemoveLeavesInk,
+    SplitLosesInks,
+    InksSwapped,
 }
 
-pub const FAULTS: [Fault; 27] = {
+pub const FAULTS: [Fault; 42] = {
     use Fault::*;
     [
         OneSplitMore, NoPlaceEarly, NoGroupEarly, Refusal4As5, RemoveAlwaysYes, RemoveAlwaysNo, CleanupAlwaysNo, CleanupAlwaysYes, QueryDropsLast,
         QuerySwapsTwo, QueryReversed, QueryDoublesFirst, OpenedLess, AnswerWordsSwapped, RowFullRefused, WantedLess, TailWritten, LeafMissing, LeafDepth,
-        AllDropsFirst, ReferencesMore, NodeWord, ChainOrder, DotRectangle, FreeGroup, LiveAfterRefusal, MarkLeft,
+        AllDropsFirst, ReferencesMore, NodeWord, ChainOrder, DotRectangle, FreeGroup, LiveAfterRefusal, MarkLeft, MaskOffByOne, MaskIgnored, MaskShowsInk0,
+        AllOfInk0, OpenedByMask, RoomForAllInks, InkDropped, Ink15Refused, Ink16Taken, InkTestedBefore4, InkTestedLast, RemoveOfInk0, RemoveLeavesInk,
+        SplitLosesInks, InksSwapped,
     ]
 };
 
 impl Fault {
     // Of an answer.
-    pub fn spoil(self, call: &Call, before: &[u32], answer: &mut Answer, rows: &mut Rows) {
+    pub fn spoil(self, call: &Call, before: &Rows, answer: &mut Answer, rows: &mut Rows) {
+        self.spoil_inks(call, before, answer, rows);
         let accepted = answer.result == 0;
         match (self, call) {
             (Fault::OneSplitMore, Call::Insert(..)) if accepted && answer.words[0] > 0 => answer.words[0] += 1,
-            (Fault::NoPlaceEarly, Call::Insert(..)) if accepted && 4 * (before[9] as usize + 1) == rows.rects.len() => *answer = Answer::refused(6, call),
+            (Fault::NoPlaceEarly, Call::Insert(..)) if accepted && 4 * (before.state[9] as usize + 1) == rows.rects.len() => *answer = Answer::refused(6, call),
             (Fault::NoGroupEarly, Call::Insert(..)) if accepted && answer.words[0] > 0 && rows.state[7] == u32::MAX => *answer = Answer::refused(7, call),
             (Fault::Refusal4As5, Call::Insert(..)) if answer.result == 4 => answer.result = 5,
             (Fault::RemoveAlwaysYes, Call::Remove(..)) => answer.words[0] = 1,
@@ -90,11 +108,17 @@ impl Fault {
             (Fault::NodeWord, Some(node)) => rows.nodes[2 * node + 1] -= 1,
             (Fault::ChainOrder, Some(node)) => {
                 let head = rows.nodes[2 * node] as usize;
-                let next = rows.dots[2 * head + 1] as usize;
-                rows.dots.swap(2 * head, 2 * next);
+                let next = rows.dots[3 * head + 1] as usize;
+                rows.dots.swap(3 * head, 3 * next);
+                rows.dots.swap(3 * head + 2, 3 * next + 2);
                 for i in 0..4 {
                     rows.rects.swap(4 * head + i, 4 * next + i);
                 }
+            }
+            (Fault::InksSwapped, Some(node)) => {
+                let head = rows.nodes[2 * node] as usize;
+                let next = rows.dots[3 * head + 1] as usize;
+                rows.dots.swap(3 * head + 2, 3 * next + 2);
             }
             (Fault::DotRectangle, Some(node)) => rows.rects[4 * rows.nodes[2 * node] as usize + 2] += 1,
             (Fault::FreeGroup, _) if rows.state[7] != u32::MAX => rows.nodes[2 * rows.state[7] as usize] = u32::MAX,

@@ -1,6 +1,7 @@
 // Random and adversarial lists.
 use crate::calls::{Call, List, Rect, Settings};
 use crate::geometry::Cell;
+use crate::krakvinge::ALL_INKS;
 use crate::random::Random;
 
 const LOWEST: i64 = -1073741824;
@@ -83,6 +84,43 @@ impl Places<'_> {
     }
 }
 
+// The inks of a list's dots.
+struct Inks(Vec<u32>);
+
+impl Inks {
+    // 0 alone, two of them, all of 0 to 15.
+    fn new(random: &mut Random) -> Inks {
+        match random.below(5) {
+            0 => Inks(vec![0]),
+            1 => Inks(vec![random.below(16) as u32, random.below(16) as u32]),
+            _ => Inks::all(),
+        }
+    }
+
+    fn all() -> Inks {
+        Inks((0..16).collect())
+    }
+
+    // One of them; where there are more than one, now and then one above 15.
+    fn pick(&self, random: &mut Random) -> u32 {
+        if self.0.len() > 1 && random.one_in(20) {
+            return random.pick(&[16, 17, 31, 32, 65536, 2147483648, u32::MAX]);
+        }
+        random.pick(&self.0)
+    }
+
+    // None of them, all, one, all but one, any.
+    fn mask(&self, random: &mut Random) -> u16 {
+        match random.below(10) {
+            0 => 0,
+            1 => ALL_INKS,
+            2..=4 => 1 << random.pick(&self.0),
+            5 | 6 => !(1 << random.pick(&self.0)),
+            _ => random.next() as u16,
+        }
+    }
+}
+
 // What a list does most: fills the tree, changes it, empties it, asks it.
 struct Habit {
     insert: u64,
@@ -91,15 +129,21 @@ struct Habit {
     ask: u64,
 }
 
-fn ask(random: &mut Random, places: &Places, room: usize, given: &[(u32, Rect)]) -> Call {
+// A question; half of the queries are asked again by a mask.
+fn ask(random: &mut Random, places: &Places, inks: &Inks, room: usize, given: &[(u32, Rect)]) -> Vec<Call> {
     let room = if random.one_in(4) { random.below(6) as usize } else { room + random.below(3) as usize };
-    match random.below(10) {
-        0 => Call::Leaves(if random.one_in(3) { room } else { 6 * (room + 64) }),
-        1 => Call::All(room),
-        2 => Call::References,
-        3 if !given.is_empty() => Call::Query(random.pick(given).1, room),
-        _ => Call::Query(places.rect(random, 12), room),
+    let rect = match random.below(10) {
+        0 => return vec![Call::Leaves(if random.one_in(3) { room } else { 6 * (room + 64) })],
+        1 => return vec![Call::All(room)],
+        2 => return vec![Call::References],
+        3 if !given.is_empty() => random.pick(given).1,
+        _ => places.rect(random, 12),
+    };
+    let mut calls = vec![Call::Query(rect, ALL_INKS, room)];
+    if random.one_in(2) {
+        calls.push(Call::Query(rect, inks.mask(random), room));
     }
+    calls
 }
 
 // Takes a dot that was given, by its rectangle or another's; or one that never was.
@@ -120,7 +164,7 @@ fn remove(random: &mut Random, places: &Places, given: &mut Vec<(u32, Rect)>) ->
 pub fn list(random: &mut Random, places: usize, groups: usize, length: usize) -> List {
     let settings = settings(random);
     let spots = Places { settings: &settings, far: random.pick(&[10, 100, 400]) };
-    let ids = random.pick(&[3, 30, 1 << 32]);
+    let (ids, inks) = (random.pick(&[3, 30, 1 << 32]), Inks::new(random));
     let mut habit = Habit { insert: 10, remove: 1, cleanup: 1, ask: 4 };
     let (mut calls, mut given) = (vec![], vec![]);
     while calls.len() < length {
@@ -134,14 +178,14 @@ pub fn list(random: &mut Random, places: usize, groups: usize, length: usize) ->
         let at = random.below(habit.insert + habit.remove + habit.cleanup + habit.ask);
         if at < habit.insert {
             let (id, rect) = (random.below(ids) as u32, spots.rect(random, 60));
-            calls.push(Call::Insert(id, rect));
+            calls.push(Call::Insert(id, rect, inks.pick(random)));
             given.push((id, rect));
         } else if at < habit.insert + habit.remove {
             calls.push(remove(random, &spots, &mut given));
         } else if at < habit.insert + habit.remove + habit.cleanup {
             calls.push(Call::Cleanup);
         } else {
-            calls.push(ask(random, &spots, places, &given));
+            calls.extend(ask(random, &spots, &inks, places, &given));
         }
     }
     List { settings, groups, places, calls }
@@ -159,21 +203,20 @@ pub fn short(random: &mut Random) -> List {
 pub fn long(random: &mut Random) -> List {
     let leaf_limit = 1 + random.below(16) as u32;
     let settings = Settings { left: -2048, top: -2048, width: 4096, height: 4096, depth_limit: 10, leaf_limit, smallest_cell: 1 };
-    let spots = Places { settings: &settings, far: 4000 };
+    let (spots, inks) = (Places { settings: &settings, far: 4000 }, Inks::all());
     let (mut calls, mut given) = (vec![], vec![]);
     for step in 0..12000u64 {
-        let call = match random.below(20) {
-            0 => ask(random, &spots, 4096, &given),
-            1 if step > 4000 => Call::Cleanup,
-            2..=9 if step > 4000 => remove(random, &spots, &mut given),
-            10..=14 if step > 8000 => remove(random, &spots, &mut given),
+        match random.below(20) {
+            0 => calls.extend(ask(random, &spots, &inks, 4096, &given)),
+            1 if step > 4000 => calls.push(Call::Cleanup),
+            2..=9 if step > 4000 => calls.push(remove(random, &spots, &mut given)),
+            10..=14 if step > 8000 => calls.push(remove(random, &spots, &mut given)),
             _ => {
-                let dot = (step as u32, spots.rect(random, 1000));
-                given.push(dot);
-                Call::Insert(dot.0, dot.1)
+                let (id, rect) = (step as u32, spots.rect(random, 1000));
+                given.push((id, rect));
+                calls.push(Call::Insert(id, rect, inks.pick(random)));
             }
-        };
-        calls.push(call);
+        }
     }
     List { settings, groups: 4096, places: 4096, calls }
 }

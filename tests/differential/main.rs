@@ -13,6 +13,8 @@ mod damaged;
 mod differences;
 mod faults;
 mod geometry;
+mod ink_faults;
+mod inked;
 #[path = "../../host/rust/krakvinge.rs"]
 #[allow(dead_code)]
 mod krakvinge;
@@ -42,8 +44,8 @@ fn compare_lists(calls: u64, seed: u64) -> bool {
         long += is_long as u64;
         lists += 1;
         let mut live = 0;
-        let difference = compare::differ(&list, Fault::None, if is_long { 400 } else { 8 }, |call, answer| {
-            counts.tell(call, answer);
+        let difference = compare::differ(&list, Fault::None, if is_long { 400 } else { 8 }, |call, answer, hidden| {
+            counts.tell(call, answer, hidden);
             live += (call.kind() == 0 && answer.result == 0) as u64;
             live -= (call.kind() == 1 && answer.words[0] == 1) as u64;
             counts.tell_live(live);
@@ -60,7 +62,7 @@ fn compare_lists(calls: u64, seed: u64) -> bool {
 // Lists until one differs.
 fn find(fault: Fault) -> Option<(u32, List)> {
     let mut random = Random(SEED);
-    (1..=FAULT_LISTS).map(|n| (n, lists::short(&mut random))).find(|(_, list)| compare::differ(list, fault, 8, |_, _| {}).is_some())
+    (1..=FAULT_LISTS).map(|n| (n, lists::short(&mut random))).find(|(_, list)| compare::differ(list, fault, 8, |_, _, _| {}).is_some())
 }
 
 fn find_faults() -> bool {
@@ -98,7 +100,7 @@ fn record() -> bool {
         let mut list = lists::short(&mut random);
         list.calls.truncate(150);
         let mut text = list.head() + "\n";
-        let difference = compare::differ(&list, Fault::None, 150, |call, answer| {
+        let difference = compare::differ(&list, Fault::None, 150, |call, answer, _| {
             text += &format!("{call} = {}{}\n", answer.result, recorded(call, answer));
         });
         if difference.is_some() {

@@ -1,8 +1,10 @@
-// The original's answers, in the interface's words. What it does not have comes from the rules of docs/SPECIFICATION.md over its own tree.
+// The original's answers, in the interface's words. What it does not have comes from the rules of docs/SPECIFICATION.md over its own tree. Inks are
+// carried by the ids of a second tree of the original's, which gets the same calls.
 use crate::calls::{Answer, Call, List, Rect, Settings};
 use crate::geometry::{contains, is_refused_4, Cell};
+use crate::inked::Inked;
 use crate::quadtree::quad_rect::QuadRect;
-use crate::quadtree::quadtree::{QuadTree, QuadTreeElement};
+use crate::quadtree::quadtree::{ElementIdType, QuadTree, QuadTreeElement};
 use crate::quadtree::AABB;
 
 pub const NONE: u32 = u32::MAX;
@@ -10,22 +12,38 @@ pub const BRANCH: u32 = u32::MAX;
 
 pub struct Original {
     pub tree: QuadTree<u32>,
+    inked: QuadTree<Inked>,
     settings: Settings,
     groups: usize,
     places: usize,
     live: usize,
+    // The dots that the last query met and its mask left out.
+    hidden: usize,
+}
+
+fn fresh<Id: ElementIdType>(s: &Settings) -> QuadTree<Id> {
+    QuadTree::new(QuadRect::new(s.left, s.top, s.width, s.height), s.depth_limit as u8, s.leaf_limit, s.smallest_cell)
 }
 
 impl Original {
     pub fn new(list: &List) -> Original {
         let s = list.settings;
-        let root = QuadRect::new(s.left, s.top, s.width, s.height);
-        let tree = QuadTree::new(root, s.depth_limit as u8, s.leaf_limit, s.smallest_cell);
-        Original { tree, settings: s, groups: list.groups, places: list.places, live: 0 }
+        Original { tree: fresh(&s), inked: fresh(&s), settings: s, groups: list.groups, places: list.places, live: 0, hidden: 0 }
     }
 
     pub fn live(&self) -> usize {
         self.live
+    }
+
+    pub fn hidden(&self) -> usize {
+        self.hidden
+    }
+
+    // A leaf's dots with their inks, head first.
+    pub fn chain(&self, leaf: u32) -> Vec<(u32, Rect, u32)> {
+        let (plain, inked) = (self.tree.chain(leaf), self.inked.chain(leaf));
+        assert!(plain.iter().map(|dot| dot.0).eq(inked.iter().map(|dot| dot.0.id)), "the original's trees have other chains");
+        plain.into_iter().zip(inked).map(|((id, rect), (dot, _))| (id, rect, dot.ink)).collect()
     }
 
     // The groups in use.
@@ -76,11 +94,14 @@ impl Original {
         opened
     }
 
-    fn insert(&mut self, id: u32, rect: Rect, call: &Call) -> Answer {
+    fn insert(&mut self, dot: Inked, rect: Rect, call: &Call) -> Answer {
         if is_refused_4(rect) {
             return Answer::refused(4, call);
         }
-        let element = QuadTreeElement::new(id, AABB::from(rect));
+        if dot.ink > 15 {
+            return Answer::refused(10, call);
+        }
+        let element = QuadTreeElement::new(dot.id, AABB::from(rect));
         // refusal 5 is the original's OutOfBounds (§11.1)
         if !contains(&self.settings, rect) {
             return if self.tree.insert(element).is_err() { Answer::refused(5, call) } else { Answer::accepted([0, 0]) };
@@ -95,11 +116,35 @@ impl Original {
         if self.tree.insert(element).is_err() {
             return Answer::refused(5, call);
         }
+        assert!(self.inked.insert(QuadTreeElement::new(dot, AABB::from(rect))).is_ok(), "the original's trees take other dots");
         self.live += 1;
         Answer::accepted([(self.used() - used) as u32, 0])
     }
 
-    fn query(&self, ids: Vec<u32>, rect: Rect, call: &Call) -> Answer {
+    fn remove(&mut self, id: u32, rect: Rect) -> Answer {
+        let yes = self.tree.remove(&QuadTreeElement::new(id, AABB::from(rect)));
+        let dot = Inked { id, ink: 0 };
+        assert_eq!(yes, self.inked.remove(&QuadTreeElement::new(dot, AABB::from(rect))), "the original's trees lose other dots");
+        self.live -= yes as usize;
+        Answer::accepted([yes as u32, 0])
+    }
+
+    fn cleanup(&mut self) -> Answer {
+        let yes = self.tree.cleanup();
+        assert_eq!(yes, self.inked.cleanup(), "the original's trees are cleaned up differently");
+        Answer::accepted([yes as u32, 0])
+    }
+
+    // All that the rectangle meets, in the original's order; of these, the ids of the inks in the mask.
+    fn query(&mut self, rect: Rect, inks: u16, call: &Call) -> Answer {
+        let (all, dots) = (self.tree.intersect_aabb(&AABB::from(rect)), self.inked.intersect_aabb(&AABB::from(rect)));
+        assert!(all.iter().eq(dots.iter().map(|dot| &dot.id)), "the original's trees list other ids");
+        let shown: Vec<u32> = dots.iter().filter(|dot| dot.is_shown(inks)).map(|dot| dot.id).collect();
+        self.hidden = all.len() - shown.len();
+        self.listed(shown, rect, call)
+    }
+
+    fn listed(&self, ids: Vec<u32>, rect: Rect, call: &Call) -> Answer {
         let hits = ids.len() as u32;
         Answer::listed(ids.into_iter().map(i64::from).collect(), [hits, self.opened(rect)], call)
     }
@@ -116,18 +161,14 @@ impl Original {
 
     pub fn answer(&mut self, call: &Call) -> Answer {
         match *call {
-            Call::Insert(id, rect) => self.insert(id, rect, call),
-            Call::Remove(id, rect) => {
-                let yes = self.tree.remove(&QuadTreeElement::new(id, AABB::from(rect)));
-                self.live -= yes as usize;
-                Answer::accepted([yes as u32, 0])
-            }
-            Call::Cleanup => Answer::accepted([self.tree.cleanup() as u32, 0]),
-            Call::Query(rect, _) => self.query(self.tree.intersect_aabb(&AABB::from(rect)), rect, call),
+            Call::Insert(id, rect, ink) => self.insert(Inked { id, ink }, rect, call),
+            Call::Remove(id, rect) => self.remove(id, rect),
+            Call::Cleanup => self.cleanup(),
+            Call::Query(rect, inks, _) => self.query(rect, inks, call),
             Call::Leaves(_) => self.leaves(call),
             Call::All(_) => {
                 let s = &self.settings;
-                self.query(self.tree.collect_ids(), [s.left, s.top, s.left + s.width, s.top + s.height], call)
+                self.listed(self.tree.collect_ids(), [s.left, s.top, s.left + s.width, s.top + s.height], call)
             }
             Call::References => Answer::accepted([self.tree.count_element_references() as u32, 0]),
         }

@@ -32,10 +32,10 @@ impl Port {
         let mut numbers = vec![UNWRITTEN as i32; call.room()];
         let rows = &mut self.rows;
         let result = match *call {
-            Call::Insert(id, rect) => rows.insert(id, rect, &mut words),
+            Call::Insert(id, rect, ink) => rows.insert(id, rect, ink, &mut words),
             Call::Remove(id, rect) => rows.remove(id, rect, &mut words),
             Call::Cleanup => rows.cleanup(&mut words),
-            Call::Query(rect, _) => rows.query(rect, &mut ids, &mut words),
+            Call::Query(rect, inks, _) => rows.query(rect, inks, &mut ids, &mut words),
             Call::Leaves(_) => rows.leaves(&mut numbers, &mut words),
             Call::All(_) => rows.all(&mut ids, &mut words),
             Call::References => rows.references(&mut words),
@@ -49,8 +49,11 @@ impl Port {
 
     pub fn answer(&mut self, call: &Call) -> Answer {
         self.soil();
-        let before = self.rows.state.clone();
-        let mut answer = self.asked(call);
+        if self.fault == Fault::None {
+            return self.asked(call);
+        }
+        let before = self.rows.clone();
+        let mut answer = self.asked(&self.fault.spoil_call(call, &before));
         self.fault.spoil(call, &before, &mut answer, &mut self.rows);
         answer
     }

@@ -32,6 +32,22 @@ longest = b'D,4294967295,-2147483648,-2147483648,-2147483648,-2147483648'
 put('longest', S + longest + b'\n' + longest + b',' + b'0' * (79 - len(longest)) + b'\n', b'S,2\nD,4294967295,0\nE,9\n')
 put('full', b'S,0,0,16,16,0,4294967295,1\n' + b'I,9,1,1,1,1\n' * 1025 + b'Q,0,0,16,16\n', b'S,0\n' + b'I,9,0\n' * 1024 + b'E,6\n' + b'Q,1,1024' + b',9' * 1024 + b'\n')
 put('groups', b'S,0,0,1073741823,1073741823,255,1,1\n' + b''.join(b'I,%d,%d,%d,%d,%d\n' % (k, x, x, x, x) for k, x in ((1, 0), (2, 0))), b'S,29\nI,1,0\nI,2,29\n')
+# inks: an I line may end in one, from 0 to 15; the windows list all of them, and a dot is removed whatever its ink
+put('inks', S + b'I,1,1,1,2,2\nI,2,9,1,10,2,0\nI,3,7,7,9,9,7\nI,4,9,9,10,10,15\nQ,0,0,16,16\nD,3,7,7,9,9\nI,5,7,7,9,9,15\nQ,0,0,16,16\nC\n',
+    b'S,2\nI,1,0\nI,2,0\nI,3,1\nI,4,0\nQ,6,4,3,1,2,4\nD,3,1\nI,5,0\nQ,6,4,5,1,2,4\nC,0\n')
+put('bad_inks', S + b''.join(b'I,1,1,1,2,2,%s\n' % n for n in (b'15', b'16', b'17', b'32', b'4294967295', b'4294967296', b'99999999999999999999')) + b'Q,0,0,16,16\n',
+    b'S,2\nI,1,0\n' + b'E,10\n' * 4 + b'E,9\n' * 2 + b'Q,1,1,1\n')
+# refusal 10 comes after 4 and before 5
+put('bad_ink_order', S + b'I,1,2,2,1,1,16\nI,1,1073741824,1,1073741824,1,16\nI,1,16,16,18,18,16\nI,1,16,16,18,18,15\n', b'S,2\nE,4\nE,4\nE,10\nE,5\n')
+put('unreadable_inks', S + b''.join(b'I,1,1,1,2,2%s\n' % n for n in (b',', b',3,', b',3,4', b',,', b',-1', b',-0', b',01', b',00', b',+1', b', 1', b',1 ', b',1\r', b',x', b';1')) + b'I,1,1,1,2,2,3',
+    b'S,2\n' + b'E,9\n' * 14 + b'I,1,0\n')
+# no other line has an ink
+put('inks_elsewhere', S + b'I,1,1,1,2,2,3\nD,1,1,1,2,2,3\nQ,0,0,16,16,3\nC,3\nD,1,1,1,2,2\n', b'S,2\nI,1,0\n' + b'E,9\n' * 3 + b'D,1,1\n')
+longest = b'I,4294967295,-2147483648,-2147483648,-2147483648,-2147483648,4294967295'
+put('longest_ink', S + longest + b'\n' + longest + b'0\n', b'S,2\nE,4\nE,9\n')
+# a film that is full of inks: 6 comes after 10
+put('full_inks', b'S,0,0,16,16,0,4294967295,1\n' + b''.join(b'I,9,1,1,1,1,%d\n' % (k % 16) for k in range(1024)) + b'I,9,1,1,1,1,16\nI,9,1,1,1,1,15\nQ,0,0,16,16\n',
+    b'S,0\n' + b'I,9,0\n' * 1024 + b'E,10\nE,6\n' + b'Q,1,1024' + b',9' * 1024 + b'\n')
 # the longest lines that are calls in all but their length: an S of 80 bytes is read (and its settings are bad), one of 81 is not
 corner = b'S' + b',-2147483648' * 4 + b',4294967295'
 for size, tail, answers in ((80, b',999999999,999999999', b'E,2\n'), (81, b',4294967295,999999999', b'E,9\n'), (82, b',4294967295,4294967295', b'E,9\n')):

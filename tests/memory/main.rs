@@ -63,11 +63,13 @@ fn garbage(random: &mut Random) -> Memory {
     m.rects.iter_mut().for_each(|w| *w = random.next() as i32);
     m.marks.iter_mut().for_each(|w| *w = random.next() as u8);
     if random.one_in(10) {
-        match random.below(5) {
+        match random.below(6) {
             0 => m.nodes.push(0),
             1 => m.dots.push(0),
             2 => m.rects.push(0),
             3 => m.marks.push(0),
+            // two words a place
+            4 => m.dots.truncate(2 * places),
             _ => m.nodes.truncate(1),
         }
     }
@@ -87,12 +89,17 @@ fn word(random: &mut Random, m: &Memory) -> u32 {
     }
 }
 
+// An ink at or near an end of the range, or any word.
+fn ink(random: &mut Random) -> u32 {
+    if random.one_in(8) { random.next() as u32 } else { random.pick(&[0, 1, 5, 14, 15, 16, 17, 31, NONE]) }
+}
+
 // One damage: of any word, or of one of the kinds that a check may miss.
 fn damage(random: &mut Random, m: &mut Memory) {
-    let (nodes, dots, rects) = (m.nodes.len() as u64, m.dots.len() as u64, m.rects.len() as u64);
+    let (nodes, dots, rects, places) = (m.nodes.len() as u64, m.dots.len() as u64, m.rects.len() as u64, m.places() as u64);
     let w = word(random, m);
     let node = |random: &mut Random| 2 * random.below(nodes / 2) as usize;
-    match random.below(14) {
+    match random.below(16) {
         0 => m.nodes[random.below(nodes) as usize] = w,
         1 if dots > 0 => m.dots[random.below(dots) as usize] = w,
         2 if rects > 0 => m.rects[random.below(rects) as usize] = random.between(-70, 70) as i32,
@@ -119,27 +126,33 @@ fn damage(random: &mut Random, m: &mut Memory) {
             }
         }
         // two places change their dots
-        9 if dots > 0 => {
-            let (p, q) = (random.below(dots / 2) as usize, random.below(dots / 2) as usize);
-            m.dots.swap(2 * p, 2 * q);
+        9 if places > 0 => {
+            let (p, q) = (random.below(places) as usize, random.below(places) as usize);
+            m.dots.swap(3 * p, 3 * q);
+            m.dots.swap(3 * p + 2, 3 * q + 2);
             for i in 0..4 {
                 m.rects.swap(4 * p + i, 4 * q + i);
             }
         }
-        10 if dots > 0 => {
-            let (p, q) = (random.below(dots / 2) as usize, random.below(dots / 2) as usize);
-            m.dots[2 * p + 1] = m.dots[2 * q + 1];
+        10 if places > 0 => {
+            let (p, q) = (random.below(places) as usize, random.below(places) as usize);
+            m.set_next(p, m.next(q));
         }
         11 => m.free_place = m.nodes[node(random)],
         12 => m.free_group = m.nodes[node(random)],
+        13 if places > 0 => m.set_ink(random.below(places) as usize, ink(random)),
+        14 if places > 0 => {
+            let (p, q) = (random.below(places) as usize, random.below(places) as usize);
+            m.dots.swap(3 * p + 2, 3 * q + 2);
+        }
         // a leaf loses the head of its chain, which becomes free
         _ => {
             let a = node(random);
             if m.nodes[a + 1] > 0 && m.nodes[a + 1] != BRANCH && (m.nodes[a] as usize) < m.places() {
                 let p = m.nodes[a] as usize;
-                m.nodes[a] = m.dots[2 * p + 1];
+                m.nodes[a] = m.next(p);
                 m.nodes[a + 1] -= 1;
-                m.dots[2 * p + 1] = m.free_place;
+                m.set_next(p, m.free_place);
                 m.free_place = p as u32;
                 m.live = m.live.wrapping_sub(1);
             }
@@ -147,8 +160,8 @@ fn damage(random: &mut Random, m: &mut Memory) {
     }
 }
 
-// The check and references against the plain rules: the answer, the marks, and that nothing else is written.
-fn compare(random: &mut Random, m: &Memory, counts: &mut [u64; 4]) {
+// The check and references against the plain rules, which say the refusal: the answer, the marks, and that nothing else is written.
+fn compare(random: &mut Random, m: &Memory, counts: &mut [u64; 4]) -> u64 {
     let expected = m.refusal();
     counts[expected as usize] += 1;
     let state = m.state();
@@ -167,9 +180,20 @@ fn compare(random: &mut Random, m: &Memory, counts: &mut [u64; 4]) {
     assert!(answer == expected, "references says {answer}, the rules {expected}: {m:?}");
     assert!(again == wanted, "references wrote: {m:?}");
     assert!(count == if expected == 0 { [m.live, 0] } else { [7; 2] }, "references counts {count:?}: {m:?}");
+    expected
 }
 
-fn round(random: &mut Random, made: &mut [u64; 4], counts: &mut [u64; 4]) {
+// A tree with another ink in one place: whether that is a tree, a dot's ink out of range, or an ink in a free place.
+fn other_ink(random: &mut Random, m: &Memory, counts: &mut [u64; 4], inks: &mut [u64; 3]) {
+    let (mut changed, place, ink) = (m.clone(), random.below(m.places() as u64) as usize, ink(random));
+    changed.set_ink(place, ink);
+    let refused = compare(random, &changed, counts) == 3;
+    let is_free = m.free_places().contains(&place);
+    assert!(refused == if is_free { ink != 0 } else { ink > 15 }, "the plain model and the ink {ink} at {place}: {m:?}");
+    inks[if refused { 1 + is_free as usize } else { 0 }] += 1;
+}
+
+fn round(random: &mut Random, made: &mut [u64; 4], counts: &mut [u64; 4], inks: &mut [u64; 3]) {
     let mut lent = garbage(random);
     let before = lent.clone();
     let mut state = before.state();
@@ -197,14 +221,17 @@ fn round(random: &mut Random, made: &mut [u64; 4], counts: &mut [u64; 4]) {
         } else if random.one_in(12) {
             m.cleanup(0);
         } else {
-            let (id, r) = (random.below(20) as u32, rect(random, &m.settings));
-            if m.insert(id, r) {
+            let (id, r, ink) = (random.below(20) as u32, rect(random, &m.settings), random.below(17) as u32);
+            if m.insert(id, r, ink) {
                 kept.push((id, r));
             }
         }
     }
     assert!(m.refusal() == 0, "the plain model left no tree: {m:?}");
     compare(random, &m, counts);
+    if m.places() > 0 {
+        other_ink(random, &m, counts, inks);
+    }
     for _ in 0..6 {
         let mut damaged = m.clone();
         for _ in 0..1 + random.below(3) {
@@ -236,14 +263,16 @@ fn edges(made: &mut [u64; 4], counts: &mut [u64; 4]) {
 }
 
 fn main() {
-    let (mut made, mut counts) = ([0; 4], [0; 4]);
+    let (mut made, mut counts, mut inks) = ([0; 4], [0; 4], [0; 3]);
     edges(&mut made, &mut counts);
     let mut random = Random(0x9e3779b97f4a7c15);
     for _ in 0..ROUNDS {
-        round(&mut random, &mut made, &mut counts);
+        round(&mut random, &mut made, &mut counts, &mut inks);
     }
     println!("make: {} accepted, {} refused 1, {} refused 2", made[0], made[1], made[2]);
     println!("check and references: {} trees, {} refused 1, {} refused 2, {} refused 3", counts[0], counts[1], counts[2], counts[3]);
+    println!("one ink changed: {} trees, {} of dots and {} of free places refused 3", inks[0], inks[1], inks[2]);
     assert!(made[0] > ROUNDS / 2 && made[1] > ROUNDS / 50 && made[2] > ROUNDS / 50, "too few of a kind");
     assert!(counts[0] > ROUNDS / 2 && counts[1] > ROUNDS / 50 && counts[2] > ROUNDS / 50 && counts[3] > ROUNDS * 2, "too few of a kind");
+    assert!(inks.iter().all(|&n| n > ROUNDS / 50), "too few of a kind");
 }

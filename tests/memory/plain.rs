@@ -92,7 +92,7 @@ impl Memory {
         }
         let mut dots = vec![];
         for p in 0..places {
-            dots.extend([0, if p + 1 < places { p as u32 + 1 } else { NONE }]);
+            dots.extend([0, if p + 1 < places { p as u32 + 1 } else { NONE }, 0]);
         }
         Memory {
             settings,
@@ -111,7 +111,27 @@ impl Memory {
     }
 
     pub fn places(&self) -> usize {
-        self.dots.len() / 2
+        self.dots.len() / 3
+    }
+
+    fn id(&self, p: usize) -> u32 {
+        self.dots[3 * p]
+    }
+
+    pub fn next(&self, p: usize) -> u32 {
+        self.dots[3 * p + 1]
+    }
+
+    pub fn ink(&self, p: usize) -> u32 {
+        self.dots[3 * p + 2]
+    }
+
+    pub fn set_next(&mut self, p: usize, next: u32) {
+        self.dots[3 * p + 1] = next;
+    }
+
+    pub fn set_ink(&mut self, p: usize, ink: u32) {
+        self.dots[3 * p + 2] = ink;
     }
 
     pub fn rect(&self, p: usize) -> Rect {
@@ -132,7 +152,7 @@ impl Memory {
     }
 
     fn push(&mut self, a: usize, p: u32) {
-        self.dots[2 * p as usize + 1] = self.first(a);
+        self.set_next(p as usize, self.first(a));
         let count = self.count(a) + 1;
         self.set(a, p, count);
     }
@@ -147,6 +167,16 @@ impl Memory {
         n
     }
 
+    // The free places of a tree, the head first.
+    pub fn free_places(&self) -> Vec<usize> {
+        let (mut link, mut places) = (self.free_place, vec![]);
+        while link != NONE {
+            places.push(link as usize);
+            link = self.next(link as usize);
+        }
+        places
+    }
+
     // The splits that an insert of r makes with groups enough.
     fn splits_needed(&self, r: Rect) -> usize {
         let (mut a, mut cell, mut splits) = (0usize, self.settings.root(), 0);
@@ -158,7 +188,7 @@ impl Memory {
         let (mut chain, mut link) = (vec![], self.first(a));
         while link != NONE {
             chain.push(self.rect(link as usize));
-            link = self.dots[2 * link as usize + 1];
+            link = self.next(link as usize);
         }
         while chain.len() >= self.settings.leaf_limit as usize && self.settings.may_split(&cell) {
             splits += 1;
@@ -170,8 +200,8 @@ impl Memory {
     }
 
     // An insert, if it is accepted.
-    pub fn insert(&mut self, id: u32, r: Rect) -> bool {
-        if !self.settings.accepts(r) || self.free_place == NONE {
+    pub fn insert(&mut self, id: u32, r: Rect, ink: u32) -> bool {
+        if !self.settings.accepts(r) || ink > 15 || self.free_place == NONE {
             return false;
         }
         let needed = self.splits_needed(r);
@@ -179,8 +209,9 @@ impl Memory {
             return false;
         }
         let p = self.free_place;
-        self.free_place = self.dots[2 * p as usize + 1];
-        self.dots[2 * p as usize] = id;
+        self.free_place = self.next(p as usize);
+        self.dots[3 * p as usize] = id;
+        self.set_ink(p as usize, ink);
         self.rects[4 * p as usize..4 * p as usize + 4].copy_from_slice(&r);
         self.live += 1;
         let (mut a, mut cell) = (0usize, self.settings.root());
@@ -200,7 +231,7 @@ impl Memory {
             self.set(g as usize, NONE, 0);
             let mut link = self.first(a);
             while link != NONE {
-                let next = self.dots[2 * link as usize + 1];
+                let next = self.next(link as usize);
                 let i = cell.route(self.rect(link as usize));
                 self.push(g as usize + i as usize, link);
                 link = next;
@@ -217,24 +248,23 @@ impl Memory {
             cell = cell.child(i);
         }
         let (mut before, mut link) = (NONE, self.first(a));
-        while link != NONE && self.dots[2 * link as usize] != id {
+        while link != NONE && self.id(link as usize) != id {
             before = link;
-            link = self.dots[2 * link as usize + 1];
+            link = self.next(link as usize);
         }
         if link == NONE {
             return false;
         }
-        let (p, next) = (link as usize, self.dots[2 * link as usize + 1]);
+        let (p, next) = (link as usize, self.next(link as usize));
         let count = self.count(a) - 1;
         if before == NONE {
             self.set(a, next, count);
         } else {
-            self.dots[2 * before as usize + 1] = next;
+            self.set_next(before as usize, next);
             let first = self.first(a);
             self.set(a, first, count);
         }
-        self.dots[2 * p] = 0;
-        self.dots[2 * p + 1] = self.free_place;
+        self.dots[3 * p..3 * p + 3].copy_from_slice(&[0, self.free_place, 0]);
         self.rects[4 * p..4 * p + 4].fill(0);
         self.free_place = link;
         self.live -= 1;
@@ -264,7 +294,7 @@ impl Memory {
         let (groups, places) = (self.groups(), self.places());
         let lengths = self.nodes.len() == 2 * (1 + 5 * groups)
             && groups <= 16384
-            && self.dots.len() == 2 * places
+            && self.dots.len() == 3 * places
             && places <= 65536
             && self.rects.len() == 4 * places
             && self.marks.len() == places + groups;
@@ -311,10 +341,10 @@ impl Memory {
             seen.places[p] = true;
             seen.chained += 1;
             let r = self.rect(p);
-            if !self.settings.accepts(r) || path.iter().any(|&(c, i)| c.route(r) != i) {
+            if !self.settings.accepts(r) || self.ink(p) > 15 || path.iter().any(|&(c, i)| c.route(r) != i) {
                 return false;
             }
-            link = self.dots[2 * p + 1];
+            link = self.next(p);
         }
         link == NONE
     }
@@ -341,11 +371,11 @@ impl Memory {
         let mut link = self.free_place;
         while link != NONE {
             let p = link as usize;
-            if p >= self.places() || seen.places[p] || self.dots[2 * p] != 0 || self.rect(p) != [0; 4] {
+            if p >= self.places() || seen.places[p] || self.id(p) != 0 || self.ink(p) != 0 || self.rect(p) != [0; 4] {
                 return false;
             }
             seen.places[p] = true;
-            link = self.dots[2 * p + 1];
+            link = self.next(p);
         }
         true
     }

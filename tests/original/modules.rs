@@ -36,7 +36,7 @@ pub mod quadtree {
             list.pop_back()
         }
 
-        impl QuadTree<u32> {
+        impl<Id: ElementIdType> QuadTree<Id> {
             pub fn node_number(&self) -> usize {
                 self.nodes.len()
             }
@@ -62,7 +62,7 @@ pub mod quadtree {
             }
 
             // A leaf's dots, head first.
-            pub fn chain(&self, leaf: u32) -> Vec<(u32, [i32; 4])> {
+            pub fn chain(&self, leaf: u32) -> Vec<(Id, [i32; 4])> {
                 let (mut at, mut chain) = (self.nodes[leaf as usize].first_child_or_element, vec![]);
                 while at != free_list::SENTINEL {
                     let node = unsafe { *self.element_nodes.at(at) };

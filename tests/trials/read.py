@@ -140,6 +140,8 @@ class Evaluator:
         'pos': (1, lambda n: n),
         'negsuc': (1, lambda n: -1 - n),
         'refusedWord': (1, Refused),
+        'none': (0, lambda: 4294967295),
+        'allInks': (0, lambda: 65535),
     }
 
     def __init__(self, source):
@@ -224,7 +226,10 @@ def answered(word):
 
 
 def line(room, kind, *rest):
-    if kind in ('insert', 'remove'):
+    if kind == 'insertInk':
+        number, rectangle, ink, word = rest
+        return [question('insert', [number, *corners(rectangle), ink], answered(word))]
+    if kind == 'remove':
         number, rectangle, word = rest
         return [question(kind, [number, *corners(rectangle)], answered(word))]
     if kind == 'cleanup':
@@ -232,9 +237,9 @@ def line(room, kind, *rest):
     if kind == 'all':
         ids, = rest
         return [question(kind, [room], [0, len(ids), '_', *ids])]
-    if kind == 'query':
-        rectangle, ids, opened = rest
-        return [question(kind, [*corners(rectangle), room], [0, len(ids), opened, *ids])]
+    if kind == 'queryInks':
+        rectangle, inks, ids, opened = rest
+        return [question('query', [*corners(rectangle), inks, room], [0, len(ids), opened, *ids])]
     if kind == 'references':
         return [question(kind, [], [0, *rest, 0])]
     if kind == 'leaves':

@@ -1,7 +1,9 @@
 -- Laws of integers and of tests.
 --     Tests        a Bool by its two cases
 --     Linear       linear facts of integers by omega; what fits a width
---     Cases        a law of four Bools, by its sixteen cases
+--     Cases        a law of four Bools or of the numbers below a bound, by a test that computes over all of them
+--     Bits         a bit, read
 pub mod Tests
 pub mod Linear
 pub mod Cases
+pub mod Bits

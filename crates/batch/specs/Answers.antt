@@ -6,9 +6,9 @@ use mathlib.Core.List.{List}
 use mathlib.Core.Bool.{cond}
 use Prim.Native.Nat.{ℕ}
 use lib.Dec.{eqb}
-use lib.IntN.{pos}
 use lib.ListN.{length}
 use Rattle.model.specs.declared.Record.{Record}
+use Rattle.model.specs.Dots.{zeroDot}
 use Rattle.model.specs.Calls.{Reply, refused, answered}
 use Rattle.batch_step.specs.declared.Batched.{Batched}
 
@@ -22,4 +22,4 @@ carriedOutBy records refusal = cond (eqb refusal 0) (length records) 0
 
 -- stands where a row has no record
 abbrev pub noRecord : Record
-noRecord = record { kind = 0; dot = record { id = 0; rect = record { x1 = pos 0; y1 = pos 0; x2 = pos 0; y2 = pos 0 } } }
+noRecord = record { kind = 0; dot = zeroDot }

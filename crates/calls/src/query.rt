@@ -1,9 +1,9 @@
-// Query and all: the ids of the dots that a rectangle meets, in the row that the caller lends.
+// Query and all: the ids of the dots that a window asks for, in the row that the caller lends.
 ghost use Rattle.model.specs.Layout.{world};
 ghost use Rattle.model.specs.Calls.{Query, All};
 ghost use Rattle.model.specs.Answers.{queryReply};
-use geometry::aabb::AABB;
 use model::State;
+use model::Window;
 use model::answers::QueryAnswer;
 use tree_check::check::check;
 use tree_query::query::query_row;
@@ -14,20 +14,20 @@ pub fn query(
     dots: &[u32],
     rects: &[i32],
     marks: &mut [u8],
-    rect: AABB,
+    window: Window,
     row: &mut [u32],
 ) -> QueryAnswer
-    ensures { λ r. ⌜ Query (world state (now (nodes .entry)) (now (dots .entry)) (now (rects .entry)) (now (marks .entry))) rect (now (row .entry))
+    ensures { λ r. ⌜ Query (world state (now (nodes .entry)) (now (dots .entry)) (now (rects .entry)) (now (marks .entry))) window (now (row .entry))
         (world state (now (nodes .exit)) (now (dots .exit)) (now (rects .exit)) (now (marks .exit))) (now (row .exit)) (queryReply r) ⌝ }
 {
     let refusal = check(state, nodes, dots, rects, marks);
     if refusal != 0 {
         return QueryAnswer::Refused(refusal);
     }
-    query_row(state, nodes, dots, rects, rect, row)
+    query_row(state, nodes, dots, rects, window, row)
 }
 
-// The dots that the root's rectangle meets.
+// A query with the root's rectangle, of all inks.
 pub fn all(
     state: State,
     nodes: &[u32],
@@ -44,5 +44,6 @@ pub fn all(
         return QueryAnswer::Refused(refusal);
     }
     let settings = state.settings;
-    query_row(state, nodes, dots, rects, settings.root_rect(), row)
+    let window = Window::all_inks(settings.root_rect());
+    query_row(state, nodes, dots, rects, window, row)
 }

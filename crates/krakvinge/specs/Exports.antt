@@ -12,7 +12,9 @@ use Prim.Native.Nat.{ℕ, _+_, _*_}
 use lib.IntN.{ℤ}
 use lib.ListN.{length}
 use Rattle.geometry.specs.declared.aabb.AABB.{AABB}
+use Rattle.model.specs.declared.Dot.{Dot}
 use Rattle.model.specs.declared.State.{State}
+use Rattle.model.specs.declared.Window.{Window}
 use Rattle.model.specs.Layout.{World, world}
 use Rattle.model.specs.declared.answers.Found.{Found}
 use Rattle.model.specs.Calls.{Reply, refused, tooMany, answered, refusal, yesNo, Insert, Remove, Cleanup, Query, All, Leaves, References, Make, Batch}
@@ -77,10 +79,10 @@ pub record Exported {B A : Type 0} (fits : Bool) (words : A → List ℕ) (says 
 
 -- ---- the calls
 
-abbrev pub Inserts : ℕ → AABB → Lent → Lent → ℕ → Type 0
-Inserts id r l l′ result =
-    Exported (rowsFit (l .state) (l .answer)) number (λ (w : World) (row : List ℕ) (w′ : World) (row′ : List ℕ) (reply : Reply ℕ). Insert w
-    (record { id = id; rect = r }) w′ reply) l [] l′ [] result
+abbrev pub Inserts : Dot → Lent → Lent → ℕ → Type 0
+Inserts dot l l′ result =
+    Exported (rowsFit (l .state) (l .answer)) number (λ (w : World) (row : List ℕ) (w′ : World) (row′ : List ℕ)
+    (reply : Reply ℕ). Insert w dot w′ reply) l [] l′ [] result
 
 abbrev pub Removes : ℕ → AABB → Lent → Lent → ℕ → Type 0
 Removes id r l l′ result =
@@ -97,10 +99,10 @@ CountsDots l l′ result =
     Exported (rowsFit (l .state) (l .answer)) number (λ (w : World) (row : List ℕ) (w′ : World) (row′ : List ℕ)
     (reply : Reply ℕ). References w w′ reply) l [] l′ [] result
 
-abbrev pub Queries : AABB → Lent → List ℕ → Lent → List ℕ → ℕ → Type 0
-Queries r l row l′ row′ result =
+abbrev pub Queries : Window → Lent → List ℕ → Lent → List ℕ → ℕ → Type 0
+Queries q l row l′ row′ result =
     Exported (rowsFit (l .state) (l .answer)) hitsOpened (λ (w : World) (ids : List ℕ) (w′ : World) (ids′ : List ℕ)
-    (reply : Reply Found). Query w r ids w′ ids′ reply) l row l′ row′ result
+    (reply : Reply Found). Query w q ids w′ ids′ reply) l row l′ row′ result
 
 abbrev pub ListsAll : Lent → List ℕ → Lent → List ℕ → ℕ → Type 0
 ListsAll l row l′ row′ result = Exported (rowsFit (l .state) (l .answer)) hitsOpened All l row l′ row′ result

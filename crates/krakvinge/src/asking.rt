@@ -11,9 +11,10 @@ use calls::query::all;
 use calls::query::query;
 use calls::references::references;
 use geometry::aabb::AABB;
+use model::Window;
 use tree_check::check::check;
 
-// The ids of the dots that the rectangle meets; the answer is their number and the nodes opened.
+// The ids of the dots of the mask's inks that the rectangle meets; the answer is their number and the nodes opened.
 #[no_mangle]
 pub extern "C" fn krakvinge_query(
     state: &[u32],
@@ -25,10 +26,11 @@ pub extern "C" fn krakvinge_query(
     y1: i32,
     x2: i32,
     y2: i32,
+    inks: u16,
     ids: &mut [u32],
     answer: &mut [u32],
 ) -> u64
-    ensures { λ r. ⌜ Queries (rectOf x1 y1 x2 y2)
+    ensures { λ r. ⌜ Queries (record { rect = rectOf x1 y1 x2 y2; inks = inks })
         (lent (now (state .entry)) (now (nodes .entry)) (now (dots .entry)) (now (rects .entry)) (now (marks .entry)) (now (answer .entry)))
         (now (ids .entry)) (lent (now (state .exit)) (now (nodes .exit)) (now (dots .exit)) (now (rects .exit)) (now (marks .exit))
         (now (answer .exit))) (now (ids .exit)) r ⌝ }
@@ -38,11 +40,19 @@ pub extern "C" fn krakvinge_query(
     }
     let before = state_in(state);
     let rect = AABB { x1, y1, x2, y2 };
-    let done = query(before, nodes, dots, rects, marks, rect, ids);
+    let done = query(
+        before,
+        nodes,
+        dots,
+        rects,
+        marks,
+        Window { rect, inks },
+        ids,
+    );
     query_out(answer, done)
 }
 
-// A query with the root's rectangle.
+// A query with the root's rectangle, of all inks.
 #[no_mangle]
 pub extern "C" fn krakvinge_all(
     state: &[u32],

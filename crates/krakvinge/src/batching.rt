@@ -1,4 +1,4 @@
-// The batch on rows of words. A record is six words: kind, id, x1, y1, x2, y2; a negative number has 4294967296 added.
+// The batch on rows of words. A record is seven words: kind, id, x1, y1, x2, y2, ink; a negative number has 4294967296 added.
 ghost use mathlib.Core.Path.{_≡_};
 ghost use mathlib.Core.List.{[]};
 ghost use Prim.Native.Nat.{_+_, _*_, _<_};
@@ -21,10 +21,10 @@ use model::State;
 
 // The record of place i.
 fn record_in(records: &[u32], i: usize) -> Record
-    requires { ⌜ 6 * i + 5 < length (now records) ⌝ }
+    requires { ⌜ 7 * i + 6 < length (now records) ⌝ }
     ensures { λ r. ⌜ r ≡ recordIn (now (records .entry)) i ⌝ }
 {
-    let at = 6 * i;
+    let at = 7 * i;
     let x1 = signed(records[at + 2]);
     let y1 = signed(records[at + 3]);
     let x2 = signed(records[at + 4]);
@@ -33,15 +33,19 @@ fn record_in(records: &[u32], i: usize) -> Record
     let id = records[at + 1];
     Record {
         kind: records[at],
-        dot: Dot { id, rect },
+        dot: Dot {
+            id,
+            rect,
+            ink: records[at + 6],
+        },
     }
 }
 
-// Whether the state row has ten words, and the records' row six for each.
+// Whether the state row has ten words, and the records' row seven for each.
 fn batch_fits(state: &[u32], records: &[u32]) -> bool
     ensures { λ r. ⌜ r ≡ batchFits (now (state .entry)) (now (records .entry)) ⌝ }
 {
-    (state.len() == 10) & (records.len() % 6 == 0)
+    (state.len() == 10) & (records.len() % 7 == 0)
 }
 
 // The check once, then every record.
@@ -59,7 +63,7 @@ fn carry_out_all(
         (world (r .state) (now (nodes .exit)) (now (dots .exit)) (now (rects .exit)) (now (marks .exit))) (now (answers .exit)) (batchReply r)
         × (r .count ≡ carriedOutBy (recordsIn (now (records .entry))) (r .refusal)) ⌝ }
 {
-    let many = records.len() / 6;
+    let many = records.len() / 7;
     let mut batched = begin(many, answers.len(), state, nodes, dots, rects, marks);
     let count = batched.count;
     let mut i = 0;

@@ -35,7 +35,7 @@ pub extern "C" fn krakvinge_make(
     make_out(state, done)
 }
 
-// A dot with its id and rectangle; the answer is the number of splits.
+// A dot with its id, rectangle and ink; the answer is the number of splits.
 #[no_mangle]
 pub extern "C" fn krakvinge_insert(
     state: &mut [u32],
@@ -48,9 +48,10 @@ pub extern "C" fn krakvinge_insert(
     y1: i32,
     x2: i32,
     y2: i32,
+    ink: u32,
     answer: &mut [u32],
 ) -> u64
-    ensures { λ r. ⌜ Inserts id (rectOf x1 y1 x2 y2)
+    ensures { λ r. ⌜ Inserts (record { id = id; rect = rectOf x1 y1 x2 y2; ink = ink })
         (lent (now (state .entry)) (now (nodes .entry)) (now (dots .entry)) (now (rects .entry)) (now (marks .entry)) (now (answer .entry)))
         (lent (now (state .exit)) (now (nodes .exit)) (now (dots .exit)) (now (rects .exit)) (now (marks .exit)) (now (answer .exit))) r ⌝ }
 {
@@ -59,7 +60,7 @@ pub extern "C" fn krakvinge_insert(
     }
     let before = state_in(state);
     let rect = AABB { x1, y1, x2, y2 };
-    let done = insert(before, nodes, dots, rects, marks, Dot { id, rect });
+    let done = insert(before, nodes, dots, rects, marks, Dot { id, rect, ink });
     insert_out(state, answer, done)
 }
 

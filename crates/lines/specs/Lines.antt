@@ -1,25 +1,27 @@
 -- The lines of calls (§13.3, §13.4).
 --     letter, kinds, values, text      a call's line
+--     NumbersOf                        what follows the letter, read as a call's numbers
 --     LineOf                           THE STATEMENT: what a line is
 use mathlib.Core.Path.{_≡_}
-use mathlib.Core.List.{List, [], _∷_}
-use mathlib.Core.Bool.{cond, _||_}
+use mathlib.Core.List.{List, [], _∷_, _++_}
+use mathlib.Core.Bool.{Bool}
 use Prim.Native.Nat.{ℕ, _≤_}
 use lib.IntN.{ℤ, pos}
-use lib.Dec.{eqb}
 use lib.ListN.{length, drop}
 use Rattle.geometry.specs.declared.aabb.AABB.{AABB}
 use Rattle.lines.specs.Text.{Kind, u32, i32, WithinAll, fields}
+use Rattle.lines.specs.Reading.{Whole}
 use Rattle.lines.specs.declared.line.Call.{Call}
-use Rattle.lines.specs.declared.line.Call.the-variants.{Settings, Insert, Remove, Cleanup, Query}
+use Rattle.lines.specs.declared.line.Call.the-variants.{Settings, Insert, InsertInk, Remove, Cleanup, Query}
 use Rattle.lines.specs.declared.line.Line.{Line}
 use Rattle.lines.specs.declared.line.Line.the-variants as line
 
 -- S, I, D, C, Q
 abbrev pub letter : Call → ℕ
 letter (Settings s) = 83
-letter (Insert d) = 73
-letter (Remove d) = 68
+letter (Insert id r) = 73
+letter (InsertInk d) = 73
+letter (Remove id r) = 68
 letter Cleanup = 67
 letter (Query r) = 81
 
@@ -31,11 +33,14 @@ four = i32 ∷ i32 ∷ i32 ∷ i32 ∷ []
 abbrev pub three : List Kind
 three = u32 ∷ u32 ∷ u32 ∷ []
 
--- §13.3: the types of a line's numbers, by its letter
-abbrev pub kinds : ℕ → List Kind
-kinds l =
-    cond (eqb l 83) (i32 ∷ i32 ∷ i32 ∷ i32 ∷ three)
-    (cond (eqb l 73 || eqb l 68) (u32 ∷ four) (cond (eqb l 81) four []))
+-- §13.3: the types of a line's numbers
+abbrev pub kinds : Call → List Kind
+kinds (Settings s) = four ++ three
+kinds (Insert id r) = u32 ∷ four
+kinds (InsertInk d) = u32 ∷ four ++ (u32 ∷ [])
+kinds (Remove id r) = u32 ∷ four
+kinds Cleanup = []
+kinds (Query r) = four
 
 abbrev pub corners : AABB → List ℤ
 corners r = r .x1 ∷ r .y1 ∷ r .x2 ∷ r .y2 ∷ []
@@ -44,8 +49,9 @@ corners r = r .x1 ∷ r .y1 ∷ r .x2 ∷ r .y2 ∷ []
 abbrev pub values : Call → List ℤ
 values (Settings s) =
     s .left ∷ s .top ∷ s .width ∷ s .height ∷ pos (s .«depth_limit») ∷ pos (s .«leaf_limit») ∷ pos (s .«smallest_cell») ∷ []
-values (Insert d) = pos (d .id) ∷ corners (d .rect)
-values (Remove d) = pos (d .id) ∷ corners (d .rect)
+values (Insert id r) = pos id ∷ corners r
+values (InsertInk d) = pos (d .id) ∷ corners (d .rect) ++ (pos (d .ink) ∷ [])
+values (Remove id r) = pos id ∷ corners r
 values Cleanup = []
 values (Query r) = corners r
 
@@ -54,7 +60,11 @@ text c = letter c ∷ fields (values c)
 
 -- a call that a line can hold: its numbers in their ranges
 abbrev pub Fits : Call → Type 0
-Fits c = WithinAll (kinds (letter c)) (values c)
+Fits c = WithinAll (kinds c) (values c)
+
+-- read?: what follows the line's first byte are numbers of the call's types, and the call has them
+abbrev pub NumbersOf : Call → List ℕ → Bool → Type 0
+NumbersOf c bytes read? = Whole (kinds c) (drop 1 bytes) read? (values c)
 
 -- a line, not too long, that begins with a letter
 pub record Begins (l : ℕ) (bytes : List ℕ) : Type 0 where

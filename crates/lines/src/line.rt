@@ -1,12 +1,7 @@
 // The lines of the calls: a letter, compared at the line's start, and its fields.
-ghost use mathlib.Core.Path.{_≡_};
-ghost use mathlib.Core.List.{_∷_};
 ghost use Prim.Native.Nat.{_≤_};
-ghost use lib.IntN.{pos};
-ghost use lib.ListN.{length, drop};
-ghost use Rattle.lines.specs.Text.{u32};
-ghost use Rattle.lines.specs.Reading.{Whole};
-ghost use Rattle.lines.specs.Lines.{Begins, LineOf, kinds, values, four, corners};
+ghost use lib.ListN.{length};
+ghost use Rattle.lines.specs.Lines.{Begins, LineOf, NumbersOf};
 use crate::field::read_four;
 use crate::field::read_natural;
 use crate::field::read_three;
@@ -14,10 +9,12 @@ use geometry::aabb::AABB;
 use geometry::settings::Settings;
 use model::Dot;
 
+// An insert's line may end in an ink: `Insert` is one that does not, `InsertInk` one that does.
 pub enum Call {
     Settings(Settings),
-    Insert(Dot),
-    Remove(Dot),
+    Insert(u32, AABB),
+    InsertInk(Dot),
+    Remove(u32, AABB),
     Cleanup,
     Query(AABB),
 }
@@ -35,7 +32,7 @@ struct SettingsFields {
 
 fn settings_fields(line: &[u8]) -> SettingsFields
     requires { ⌜ 1 ≤ length (now line) ⌝ }
-    ensures { λ r. ⌜ Whole (kinds 83) (drop 1 (now (line .entry))) (r .ok) (values (Call.Settings (r .settings))) ⌝ }
+    ensures { λ r. ⌜ NumbersOf (Call.Settings (r .settings)) (now (line .entry)) (r .ok) ⌝ }
 {
     let root = read_four(line, 1);
     let limits = read_three(line, root.next);
@@ -55,22 +52,30 @@ fn settings_fields(line: &[u8]) -> SettingsFields
     }
 }
 
-// An id and a rectangle, if they are all that follows the letter.
+// An id, a rectangle and an ink: whether the first two are all that follows the letter, and whether all three are.
 struct DotFields {
-    pub ok: bool,
+    pub without_ink: bool,
+    pub with_ink: bool,
     pub dot: Dot,
 }
 
 fn dot_fields(line: &[u8]) -> DotFields
     requires { ⌜ 1 ≤ length (now line) ⌝ }
-    ensures { λ r. ⌜ Whole (u32 ∷ four) (drop 1 (now (line .entry))) (r .ok) (pos (r .dot .id) ∷ corners (r .dot .rect)) ⌝ }
+    ensures { λ r. ⌜ NumbersOf (Call.Insert (r .dot .id) (r .dot .rect)) (now (line .entry)) (r .«without_ink») ⌝ }
+    ensures { λ r. ⌜ NumbersOf (Call.InsertInk (r .dot)) (now (line .entry)) (r .«with_ink») ⌝ }
 {
     let id = read_natural(line, 1);
     let corners = read_four(line, id.next);
+    let ink = read_natural(line, corners.next);
     let rect = corners.rect;
-    let dot = Dot { id: id.value, rect };
+    let dot = Dot {
+        id: id.value,
+        rect,
+        ink: ink.value,
+    };
     DotFields {
-        ok: (id.ok & corners.ok) & (corners.next == line.len()),
+        without_ink: (id.ok & corners.ok) & (corners.next == line.len()),
+        with_ink: ((id.ok & corners.ok) & ink.ok) & (ink.next == line.len()),
         dot,
     }
 }
@@ -94,8 +99,12 @@ fn insert_line(line: &[u8]) -> Line
 {
     let fields = dot_fields(line);
     let dot = fields.dot;
-    if fields.ok {
-        Line::Call(Call::Insert(dot))
+    let rect = dot.rect;
+    if fields.without_ink {
+        return Line::Call(Call::Insert(dot.id, rect));
+    }
+    if fields.with_ink {
+        Line::Call(Call::InsertInk(dot))
     } else {
         Line::Unreadable
     }
@@ -107,8 +116,9 @@ fn remove_line(line: &[u8]) -> Line
 {
     let fields = dot_fields(line);
     let dot = fields.dot;
-    if fields.ok {
-        Line::Call(Call::Remove(dot))
+    let rect = dot.rect;
+    if fields.without_ink {
+        Line::Call(Call::Remove(dot.id, rect))
     } else {
         Line::Unreadable
     }

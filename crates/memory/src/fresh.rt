@@ -1,20 +1,21 @@
 // The fresh tree (§2.11): an empty root, and free lists of all groups and all places in rising order.
 ghost use mathlib.Core.Path.{_≡_};
 ghost use mathlib.Core.Bool.{true, cond};
-ghost use Prim.Native.Nat.{_+_, _*_, _/_, _≤_, _<_};
+ghost use Prim.Native.Nat.{_+_, _*_, _≤_, _<_};
 ghost use lib.Dec.{eqb};
 ghost use lib.ListN.{length};
 ghost use Rattle.geometry.specs.Settings.{inRange};
 ghost use Rattle.model.specs.Shapes.{fresh};
-ghost use Rattle.model.specs.Layout.{none, world, layout};
+ghost use Rattle.model.specs.Layout.{dotsFor, none, world, groupsIn, placesIn, layout};
 ghost use Rattle.memory.specs.Lengths.{lengthsFit};
 ghost use Rattle.memory.specs.Fresh.{freshNode, freshNext, freshState, FreshNodes, FreshPlaces};
+use crate::lengths::groups_in;
+use crate::lengths::places_in;
 use crate::marks::clear_marks;
 use crate::node::Node;
 use crate::node::set_node;
 use crate::places::set_dot;
 use crate::places::set_next;
-use geometry::aabb::AABB;
 use geometry::settings::Settings;
 use model::Dot;
 use model::State;
@@ -58,18 +59,12 @@ fn make_nodes(nodes: &mut [u32], groups: usize)
 }
 
 fn make_places(dots: &mut [u32], rects: &mut [i32], places: usize)
-    requires { ⌜ (places ≤ 65536) × (length (now dots) ≡ 2 * places) × (length (now rects) ≡ 4 * places) ⌝ }
+    requires { ⌜ (places ≤ 65536) × (length (now dots) ≡ dotsFor places) × (length (now rects) ≡ 4 * places) ⌝ }
     ensures { λ _. ⌜ FreshPlaces places (now (dots .exit)) (now (rects .exit)) ⌝ }
 {
     let mut place = 0;
     while place < places {
-        let rect = AABB {
-            x1: 0,
-            y1: 0,
-            x2: 0,
-            y2: 0,
-        };
-        set_dot(dots, rects, place, Dot { id: 0, rect });
+        set_dot(dots, rects, place, Dot::zero());
         set_next(dots, place, fresh_next(places, place));
         place += 1;
     }
@@ -106,10 +101,10 @@ pub fn make_fresh(
 ) -> State
     requires { ⌜ (lengthsFit (length (now nodes)) (length (now dots)) (length (now rects)) (length (now marks)) ≡ true) × (inRange settings ≡ true) ⌝ }
     ensures { λ r. ⌜ world r (now (nodes .exit)) (now (dots .exit)) (now (rects .exit)) (now (marks .exit)) ≡ layout
-        (fresh settings (length (now (nodes .entry)) / 10) (length (now (dots .entry)) / 2)) ⌝ }
+        (fresh settings (groupsIn (length (now (nodes .entry)))) (placesIn (length (now (dots .entry))))) ⌝ }
 {
-    let groups = nodes.len() / 10;
-    let places = dots.len() / 2;
+    let groups = groups_in(nodes);
+    let places = places_in(dots);
     make_nodes(nodes, groups);
     make_places(dots, rects, places);
     clear_marks(marks);

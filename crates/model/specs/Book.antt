@@ -18,6 +18,7 @@ use Rattle.geometry.specs.declared.settings.Settings.{Settings}
 use Rattle.model.specs.Lists.{count, filter}
 use Rattle.geometry.specs.Settings.{D}
 use Rattle.model.specs.declared.Dot.{Dot}
+use Rattle.model.specs.declared.Window.{Window}
 use Rattle.model.specs.Dots.{isHit}
 use Rattle.model.specs.Layout.{World}
 use Rattle.model.specs.declared.answers.Found.{Found}
@@ -29,7 +30,7 @@ pub data Event : Type 0 where
   insert : Dot → Reply ℕ → Event
   remove : ℕ → AABB → Reply Bool → Event
   cleanup : Reply Bool → Event
-  query : AABB → List ℕ → List ℕ → Reply Found → Event
+  query : Window → List ℕ → List ℕ → Reply Found → Event
 
 -- §12.1: the event can happen: the call, given the world w and its arguments, may leave w′ and give this reply
 abbrev pub Happens : World → Event → World → Type 0
@@ -61,7 +62,7 @@ abbrev pub without : ℕ → List Dot → List Dot
 without id [] = []
 without id (d ∷ ds) = cond (eqb id (d .id)) (without id ds) (d ∷ without id ds)
 
--- §12.3, §12.4: the book after an event. An entry, an id with a rectangle, is a dot.
+-- §12.3, §12.4: the book after an event. An entry, an id with a rectangle and an ink, is a dot.
 abbrev pub entered : List Dot → Event → List Dot
 entered b (insert dot reply) = cond (accepted reply) (dot ∷ b) b
 entered b (remove id r reply) = cond (saidYes reply) (without id b) b
@@ -122,11 +123,11 @@ cleanups (query q row row′ reply ∷ es) = cleanups es
 -- ---- the demand
 
 -- the dots of the book that a query with q lists
-abbrev pub meeting : AABB → List Dot → List Dot
+abbrev pub meeting : Window → List Dot → List Dot
 meeting q b = filter (isHit q) b
 
--- §12.7: all live ids that intersect, no others, none twice
-pub record Exactly (q : AABB) (b : List Dot) (listed : List ℕ) : Type 0 where
+-- §12.7: all live ids of the query's inks that intersect, no others, none twice
+pub record Exactly (q : Window) (b : List Dot) (listed : List ℕ) : Type 0 where
   pub once : (id : ℕ) → count id listed ≤ 1
   pub onlyThose : (id : ℕ) → 1 ≤ count id listed → (d : Dot) × Has d b × (d .id ≡ id) × (isHit q d ≡ true)
   pub allThose : (d : Dot) → Has d b → isHit q d ≡ true → 1 ≤ count (d .id) listed
@@ -134,7 +135,7 @@ pub record Exactly (q : AABB) (b : List Dot) (listed : List ℕ) : Type 0 where
 -- what is promised of a world w after a list of calls whose book is b
 pub record Promise (s : Settings) (w : World) (b : List Dot) : Type 0 where
   -- §12.7: the row has a word for each id to be listed, and then begins with the ids, as many as the answer reports
-  pub lists : (q : AABB) (row row′ : List ℕ) (w′ : World) (reply : Reply Found) → Query w q row w′ row′ reply → length (meeting q b) ≤ length row
+  pub lists : (q : Window) (row row′ : List ℕ) (w′ : World) (reply : Reply Found) → Query w q row w′ row′ reply → length (meeting q b) ≤ length row
       → (a : Found) × (reply ≡ answered a) × Exactly q b (take (a .hits) row′)
   -- §12.8: a live id, by the rectangle of its insert: yes
   pub removesLive : (d : Dot) (w′ : World) (reply : Reply Bool) → Remove w (d .id) (d .rect) w′ reply → Has d b → reply ≡ answered true
@@ -145,7 +146,7 @@ pub record Promise (s : Settings) (w : World) (b : List Dot) : Type 0 where
       → reply ≡ answered false
   -- §12.11: once a cleanup has said no
   pub opensFew : (es fs : List Event) (v w′ : World) → Run w (es ++ cleanup (answered false) ∷ fs) v → Quiet es → Quiet fs
-      → (q : AABB) (row row′ : List ℕ) (a : Found) → Query v q row w′ row′ (answered a) → a .opened ≤ 1 + 5 * D s * length b
+      → (q : Window) (row row′ : List ℕ) (a : Found) → Query v q row w′ row′ (answered a) → a .opened ≤ 1 + 5 * D s * length b
 
 -- §12.1, §12.6: every list from a tree that an accepted make left fresh, in any lent memory
 unfoldable pub Demand3 : Type 0

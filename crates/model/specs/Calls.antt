@@ -14,10 +14,12 @@ use lib.ListN.{length, drop}
 use Rattle.geometry.specs.declared.aabb.AABB.{AABB}
 use Rattle.geometry.specs.declared.settings.Settings.{Settings}
 use Rattle.model.specs.declared.Dot.{Dot}
+use Rattle.model.specs.declared.Window.{Window}
 use Rattle.model.specs.declared.Record.{Record}
 use Rattle.model.specs.declared.answers.Found.{Found}
 use Rattle.geometry.specs.Rectangles.{inverted, farOut}
 use Rattle.geometry.specs.Settings.{rootOf, inRange, contains, rootRect}
+use Rattle.model.specs.Dots.{goodInk, ofAllInks}
 use Rattle.model.specs.Trees.{size}
 use Rattle.model.specs.Shapes.{Shape, fresh, inserted, splitsMade, splitsNeeded, removed, foundBy}
 use Rattle.model.specs.Shapes.{cleaned, cleans, listed, opensFor, leaves, leafNumber, references}
@@ -68,15 +70,16 @@ module _ {B A : Type 0} where
 
 -- ---- the rules
 
--- §11.4: refusals 4, 5, 6, 7, else §5
+-- §11.4: refusals 4, 10, 5, 6, 7, else §5
 unfoldable pub insertRule : Dot → Shape → Verdict ℕ ℕ
 insertRule dot x =
     let r = dot .rect in
     cond (inverted r || farOut r) (refuse 4)
+    (cond (not (goodInk dot)) (refuse 10)
     (cond (not (contains (rootOf (x .settings)) r)) (refuse 5)
     (cond (eqb (size (x .tree)) (x .places)) (refuse 6)
     (cond (ltb (length (x .freeGroups)) (splitsNeeded dot x)) (refuse 7)
-    (accept (inserted dot x) [] (splitsMade dot x)))))
+    (accept (inserted dot x) [] (splitsMade dot x))))))
 
 -- §6.3, §11.6: yes, or no and the tree as it was
 unfoldable pub removeRule : ℕ → AABB → Shape → Verdict ℕ Bool
@@ -91,14 +94,14 @@ unfoldable pub referencesRule : Shape → Verdict ℕ ℕ
 referencesRule x = accept x [] (references x)
 
 -- §8, §11.5: refusal 8 if there are more ids than words in the row
-unfoldable pub queryRule : AABB → ℕ → Shape → Verdict ℕ Found
+unfoldable pub queryRule : Window → ℕ → Shape → Verdict ℕ Found
 queryRule q room x =
     let ids = listed q x in
-    cond (ltb room (length ids)) (overflow (length ids)) (accept x ids (record { hits = length ids; opened = opensFor q x }))
+    cond (ltb room (length ids)) (overflow (length ids)) (accept x ids (record { hits = length ids; opened = opensFor (q .rect) x }))
 
--- §8.5: a query with the root's rectangle
+-- §8.5: a query with the root's rectangle, of all inks
 unfoldable pub allRule : ℕ → Shape → Verdict ℕ Found
-allRule room x = queryRule (rootRect (x .settings)) room x
+allRule room x = queryRule (ofAllInks (rootRect (x .settings))) room x
 
 -- §9, §11.5: a leaf takes six words of the row
 unfoldable pub leavesRule : ℕ → Shape → Verdict ℤ ℕ
@@ -159,7 +162,7 @@ Cleanup w w′ reply = Obeys true cleanupRule w [] (exit w′ [] reply)
 unfoldable pub References : World → World → Reply ℕ → Type 0
 References w w′ reply = Obeys true referencesRule w [] (exit w′ [] reply)
 
-unfoldable pub Query : World → AABB → List ℕ → World → List ℕ → Reply Found → Type 0
+unfoldable pub Query : World → Window → List ℕ → World → List ℕ → Reply Found → Type 0
 Query w q row w′ row′ reply = Obeys true (queryRule q (length row)) w row (exit w′ row′ reply)
 
 unfoldable pub Leaves : World → List ℤ → World → List ℤ → Reply ℕ → Type 0

@@ -35,12 +35,22 @@ changedState s freeGroup freePlace live = record { settings = s .settings; «fre
 
 -- ---- lengths
 
--- G and N, read off the lengths
+-- G and N, read off the lengths of the nodes and the dots
+abbrev pub groupsIn : ℕ → ℕ
+groupsIn nodes = nodes / 10
+
+abbrev pub placesIn : ℕ → ℕ
+placesIn dots = dots / 3
+
+-- §2.1: the words of so many places in the row of dots
+abbrev pub dotsFor : ℕ → ℕ
+dotsFor places = 3 * places
+
 abbrev pub groupsOf : World → ℕ
-groupsOf w = length (w .nodes) / 10
+groupsOf w = groupsIn (length (w .nodes))
 
 abbrev pub placesOf : World → ℕ
-placesOf w = length (w .dots) / 2
+placesOf w = placesIn (length (w .dots))
 
 -- §2.1: the nodes
 abbrev pub nodesRight : World → Bool
@@ -48,7 +58,7 @@ nodesRight w = eqb (length (w .nodes)) (2 * (1 + 5 * groupsOf w)) && leb (groups
 
 -- §2.1: dots and rects
 abbrev pub dotsRight : World → Bool
-dotsRight w = eqb (length (w .dots)) (2 * placesOf w) && leb (placesOf w) 65536 && eqb (length (w .rects)) (4 * placesOf w)
+dotsRight w = eqb (length (w .dots)) (dotsFor (placesOf w)) && leb (placesOf w) 65536 && eqb (length (w .rects)) (4 * placesOf w)
 
 -- §2.1: the marks
 abbrev pub marksRight : World → Bool
@@ -125,9 +135,9 @@ abbrev pub nodeWords : List NodeEntry → ℕ → List ℕ
 nodeWords [] k = 0 ∷ 0 ∷ []
 nodeWords (e ∷ es) k = cond (eqb k (e .node)) (e .first ∷ e .count ∷ []) (nodeWords es k)
 
--- §2.1: id, next
+-- §2.1: id, next, ink
 abbrev pub placeWords : Dot → ℕ → List ℕ
-placeWords d next = d .id ∷ next ∷ []
+placeWords d next = d .id ∷ next ∷ d .ink ∷ []
 
 abbrev pub dotWords : List PlaceEntry → ℕ → List ℕ
 dotWords [] k = placeWords zeroDot 0

@@ -1,6 +1,6 @@
 -- The words read node by node and place by place: the relation that code is proved with. Laws.Memory shows that it and the layout say the same.
 --     Mem, read, memory    the words as functions of a node's or a place's number: a store into a row is a change of one of them
---     firstAt, countAt, idAt, nextAt, rectAt, dotAt        where each word stands in its row
+--     firstAt, countAt, idAt, nextAt, inkAt, rectAt, dotAt where each word stands in its row
 --     Chained, Represents, FreeGroups      a chain, a tree at a node, the free groups
 --     Represented w x      the world w, read so, has the shape x
 use mathlib.Core.Path.{_≡_}
@@ -12,7 +12,7 @@ use Rattle.geometry.specs.declared.aabb.AABB.{AABB}
 use Rattle.model.specs.declared.Dot.{Dot}
 use Rattle.model.specs.Trees.{Placed, Tree, leaf, branch, childNode, size}
 use Rattle.model.specs.Shapes.{Shape}
-use Rattle.model.specs.Layout.{World, none, branchMark, blank}
+use Rattle.model.specs.Layout.{dotsFor, World, none, branchMark, blank}
 
 -- the words of each node, and each place's dot and next
 pub record Mem : Type 0 where
@@ -30,10 +30,13 @@ countAt nodes a = getD nodes (2 * a + 1) 0
 
 -- §2.1: .. and of a place
 unfoldable pub idAt : List ℕ → ℕ → ℕ
-idAt dots p = getD dots (2 * p + 0) 0
+idAt dots p = getD dots (3 * p + 0) 0
 
 unfoldable pub nextAt : List ℕ → ℕ → ℕ
-nextAt dots p = getD dots (2 * p + 1) 0
+nextAt dots p = getD dots (3 * p + 1) 0
+
+unfoldable pub inkAt : List ℕ → ℕ → ℕ
+inkAt dots p = getD dots (3 * p + 2) 0
 
 unfoldable pub rectAt : List ℤ → ℕ → AABB
 rectAt rects p =
@@ -45,7 +48,7 @@ rectAt rects p =
     }
 
 abbrev pub dotAt : List ℕ → List ℤ → ℕ → Dot
-dotAt dots rects p = record { id = idAt dots p; rect = rectAt rects p }
+dotAt dots rects p = record { id = idAt dots p; rect = rectAt rects p; ink = inkAt dots p }
 
 abbrev pub read : List ℕ → List ℕ → List ℤ → Mem
 read nodes dots rects = record { first = firstAt nodes; count = countAt nodes; dot = dotAt dots rects; next = nextAt dots }
@@ -73,7 +76,7 @@ FreeGroups m h (g ∷ gs) =
 
 pub record Represented (w : World) (x : Shape) : Type 0 where
   pub nodes : length (w .nodes) ≡ 2 + 10 * x .groups
-  pub dots : length (w .dots) ≡ 2 * x .places
+  pub dots : length (w .dots) ≡ dotsFor (x .places)
   pub rects : length (w .rects) ≡ 4 * x .places
   pub marks : length (w .marks) ≡ x .places + x .groups
   pub tree : Represents (memory w) 0 (x .tree)

@@ -12,16 +12,18 @@ use Rattle.geometry.specs.declared.node_data.NodeData.{NodeData}
 use Rattle.geometry.specs.Cells.{childData, opens}
 use Rattle.model.specs.Sums.{sumBelow}
 use Rattle.model.specs.Lists.{joinBelow, filter}
+use Rattle.model.specs.declared.Window.{Window}
 use Rattle.model.specs.Dots.{isHit}
 use Rattle.model.specs.Trees.{Placed, Tree, leaf, branch}
 
-module _ (q : AABB) where
-  -- §8.2, §8.3: child after child of those that are opened, and of a leaf what intersects, in the order of its chain
+module _ (q : Window) where
+  -- §8.2, §8.3: child after child of those that are opened, and of a leaf what the query lists, in the order of its chain
   abbrev pub hits : NodeData → Tree → List Placed
   hits n (leaf chain) = filter (λ d. isHit q (d .dot)) chain
-  hits n (branch g f) = joinBelow 5 (λ i. cond (opens q n i) (hits (childData n i) (f i)) [])
+  hits n (branch g f) = joinBelow 5 (λ i. cond (opens (q .rect) n i) (hits (childData n i) (f i)) [])
 
-  -- §8.4: the nodes opened, this one among them
+module _ (q : AABB) where
+  -- §8.4: the nodes opened, this one among them; the inks make no difference
   abbrev pub opened : NodeData → Tree → ℕ
   opened n (leaf chain) = 1
   opened n (branch g f) = 1 + sumBelow 5 (λ i. cond (opens q n i) (opened (childData n i) (f i)) 0)

@@ -18,6 +18,7 @@ use Rattle.geometry.specs.declared.node_data.NodeData.{NodeData}
 use Rattle.geometry.specs.Settings.{inRange, D}
 use Rattle.geometry.specs.Cells.{rootData, childData, maySplit}
 use Rattle.model.specs.declared.Dot.{Dot}
+use Rattle.model.specs.declared.Window.{Window}
 use Rattle.model.specs.Lists.{All, upTo, count}
 use Rattle.model.specs.Dots.{acceptableDot}
 use Rattle.model.specs.Trees.{Placed, Tree, leaf, branch, groupCount, placeCount, AllDots, size}
@@ -113,7 +114,7 @@ unfoldable pub cleaned : Shape → Shape
 cleaned x = reshaped x (cleanTree (x .tree)) (freedBy (x .tree) (x .freeGroups)) (x .freePlaces)
 
 -- Query (§8): the ids, and the nodes opened
-unfoldable pub listed : AABB → Shape → List ℕ
+unfoldable pub listed : Window → Shape → List ℕ
 listed q x = map (λ d. d .dot .id) (hits q (root x) (x .tree))
 
 unfoldable pub opensFor : AABB → Shape → ℕ

@@ -13,7 +13,7 @@ use lib.Dec.{eqb}
 use Rattle.geometry.specs.declared.aabb.AABB.{AABB}
 use Rattle.geometry.specs.declared.settings.Settings.{Settings}
 use Rattle.model.specs.Sums.{indicator, changed}
-use Rattle.model.specs.Dots.{isHit, matches}
+use Rattle.model.specs.Dots.{goodInk, shows, allInks, isHit, matches}
 use Rattle.geometry.specs.Rectangles.{flat, intersects, middle, within, inverted, near, farOut}
 use Rattle.geometry.specs.Settings.{rootOf, W, bitsWithin, bitLength, halvings, D, contains, rootRect}
 use Rattle.geometry.specs.Cells.{routeCell, mayDivide, rootCell, rootData, childCentre, quarterCell, childCell, childData, quadrant, route, bothTests, opens}
@@ -24,6 +24,7 @@ use Rattle.model.specs.declared.answers.Found.{Found}
 use Rattle.model.specs.Calls.{Verdict, refuse, overflow, accept, recorded, refusedWord, yesNo, insertRule}
 use Rattle.model.specs.Calls.{removeRule, cleanupRule, queryRule, allRule, leavesRule, referencesRule}
 use Rattle.arithmetic.specs.Ints.{maxZ, minZ}
+use Rattle.arithmetic.specs.Bits.{bitAt}
 
 -- §14.1: the root and the limits, with a leaf limit
 abbrev pub settings : ℕ → Settings
@@ -54,11 +55,13 @@ rect x1 y1 x2 y2 = record { x1 = pos x1; y1 = pos y1; x2 = pos x2; y2 = pos y2 }
 
 -- an answer is the word that the batch writes (§10.4)
 pub data Line : Type 0 where
-  insert : ℕ → AABB → ℕ → Line
+  -- an id, a rectangle, an ink
+  insertInk : ℕ → AABB → ℕ → ℕ → Line
   remove : ℕ → AABB → ℕ → Line
   cleanup : ℕ → Line
   all : List ℕ → Line
-  query : AABB → List ℕ → ℕ → Line
+  -- a rectangle and a mask; the ids, and the nodes opened
+  queryInks : AABB → ℕ → List ℕ → ℕ → Line
   references : ℕ → Line
   -- the row, none of whose words is negative
   leaves : List ℕ → Line
@@ -66,6 +69,13 @@ pub data Line : Type 0 where
   words : List ℕ → List ℕ → Line
   -- the free groups at this point, the head first
   freeGroups : List ℕ → Line
+
+-- of ink 0; of all inks
+abbrev insert : ℕ → AABB → ℕ → Line
+insert id r word = insertInk id r 0 word
+
+abbrev query : AABB → List ℕ → ℕ → Line
+query q ids opened = queryInks q allInks ids opened
 
 pub data Trial : Type 0 where
   -- the root contains the rectangle, or not
@@ -113,13 +123,15 @@ opensJust (accept x row a) n = eqb (a .opened) n
 
 abbrev passLines : Shape → List Line → Bool
 passLines x [] = true
-passLines x (insert id r word ∷ ls) = let v = recorded (λ n. n) x (insertRule (record { id = id; rect = r }) x) in eqb (v .word) word && passLines (v .shape) ls
+passLines x (insertInk id r ink word ∷ ls) =
+    let v = recorded (λ n. n) x (insertRule (record { id = id; rect = r; ink = ink }) x) in eqb (v .word) word && passLines (v .shape) ls
 passLines x (remove id r word ∷ ls) = let v = recorded yesNo x (removeRule id r x) in eqb (v .word) word && passLines (v .shape) ls
 passLines x (cleanup word ∷ ls) = let v = recorded yesNo x (cleanupRule x) in eqb (v .word) word && passLines (v .shape) ls
 passLines x (all ids ∷ ls) = lists (allRule room x) ids && passLines x ls
 passLines x (words nodes dots ∷ ls) = sameList (layout x .nodes) nodes && sameList (layout x .dots) dots && passLines x ls
 passLines x (freeGroups gs ∷ ls) = sameList (x .freeGroups) gs && passLines x ls
-passLines x (query q ids opened ∷ ls) = lists (queryRule q room x) ids && opensJust (queryRule q room x) opened && passLines x ls
+passLines x (queryInks q inks ids opened ∷ ls) =
+    let v = queryRule (record { rect = q; inks = inks }) room x in lists v ids && opensJust v opened && passLines x ls
 passLines x (references n ∷ ls) = eqb (recorded (λ n. n) x (referencesRule x) .word) n && passLines x ls
 passLines x (leaves row ∷ ls) = listsLeaves (leavesRule room x) row && passLines x ls
 
@@ -140,6 +152,20 @@ three ls = insert 1 (rect 1 1 2 2) 0 ∷ insert 2 (rect 9 1 10 2) 0 ∷ insert 3
 -- the six words of a leaf, and then those of the leaves after it
 abbrev leaf : ℕ → ℕ → ℕ → ℕ → ℕ → ℕ → List ℕ → List ℕ
 leaf x y halfWidth halfHeight depth count row = x ∷ y ∷ halfWidth ∷ halfHeight ∷ depth ∷ count ∷ row
+
+-- the words of a place, of a free place, and then those of the places after it
+abbrev place : ℕ → ℕ → ℕ → List ℕ → List ℕ
+place id next ink row = id ∷ next ∷ ink ∷ row
+
+abbrev free : ℕ → List ℕ → List ℕ
+free next row = place 0 next 0 row
+
+-- the nodes of a fresh tree with G = 1: all, and all but the root
+abbrev freshGroup : List ℕ
+freshGroup = none ∷ 0 ∷ none ∷ 0 ∷ none ∷ 0 ∷ none ∷ 0 ∷ none ∷ 0 ∷ []
+
+abbrev freshNodes : List ℕ
+freshNodes = none ∷ 0 ∷ freshGroup
 
 abbrev pub table : List Trial
 table =
@@ -168,8 +194,8 @@ table =
     ∷ calls 2 8 (three (remove 1 (rect 9 1 10 2) 0 ∷ []))
     ∷ []
 
--- others: the lines of §13.7; the mistakes of §14.2 that `table` has not; the order of freed groups; and every word after the three inserts of §13.7,
--- with G = 1
+-- others: the lines of §13.7; the mistakes of §14.2 that `table` has not; the order of freed groups; every word after the three inserts of §13.7, with
+-- G = 1; and inks
 abbrev pub further : List Trial
 further =
     deepest 2
@@ -191,23 +217,39 @@ further =
     ∷ calls 2 1 (three (
     words
     (1 ∷ 4294967295 ∷ 2 ∷ 1 ∷ 0 ∷ 1 ∷ 1 ∷ 1 ∷ 4294967295 ∷ 0 ∷ 4294967295 ∷ 0 ∷ [])
-    (1 ∷ 4294967295 ∷ 2 ∷ 4294967295 ∷ 3 ∷ 4294967295 ∷ 0 ∷ 4 ∷ 0 ∷ 5 ∷ 0 ∷ 6 ∷ 0 ∷ 7 ∷ 0 ∷ 4294967295 ∷ []) ∷ []
+    (place 1 none 0 (place 2 none 0 (place 3 none 0 (free 4 (free 5 (free 6 (free 7 (free none [])))))))) ∷ []
     ))
-    ∷ calls 2 1 (words
-    (4294967295 ∷ 0 ∷ 4294967295 ∷ 0 ∷ 4294967295 ∷ 0 ∷ 4294967295 ∷ 0 ∷ 4294967295 ∷ 0 ∷ 4294967295 ∷ 0 ∷ [])
-    (0 ∷ 1 ∷ 0 ∷ 2 ∷ 0 ∷ 3 ∷ 0 ∷ 4 ∷ 0 ∷ 5 ∷ 0 ∷ 6 ∷ 0 ∷ 7 ∷ 0 ∷ 4294967295 ∷ []) ∷ [])
+    ∷ calls 2 1 (words freshNodes (free 1 (free 2 (free 3 (free 4 (free 5 (free 6 (free 7 (free none [])))))))) ∷ [])
+    -- refusal 10 comes after 4 and before 5, and ink 15 is taken
+    ∷ calls 2 1 (
+    insertInk 1 (rect 2 2 1 1) 16 (refusedWord 4) ∷ insertInk 1 (rect 16 16 18 18) 16 (refusedWord 10)
+    ∷ insertInk 1 (rect 16 16 18 18) 15 (refusedWord 5) ∷ insertInk 1 (rect 1 1 2 2) 15 0 ∷ references 1 ∷ []
+    )
+    -- masks: each lists its inks, and opens what it would open for all; the split has kept the inks, and a dot is removed whatever its ink
+    ∷ calls 2 1 (
+    insertInk 1 (rect 1 1 2 2) 0 0 ∷ insertInk 2 (rect 3 3 3 3) 15 0 ∷ insertInk 3 (rect 9 9 10 10) 1 1
+    ∷ query (rect 0 0 16 16) (1 ∷ 2 ∷ 3 ∷ []) 6 ∷ queryInks (rect 0 0 16 16) 0 [] 6 ∷ queryInks (rect 0 0 16 16) 1 (1 ∷ []) 6
+    ∷ queryInks (rect 0 0 16 16) 32770 (2 ∷ 3 ∷ []) 6 ∷ remove 2 (rect 3 3 3 3) 1 ∷ queryInks (rect 0 0 16 16) 32768 [] 6 ∷ []
+    )
+    -- the third word of a place is its dot's ink; a freed place has the ink 0
+    ∷ calls 2 1 (
+    insertInk 9 (rect 1 1 2 2) 5 0
+    ∷ words (0 ∷ 1 ∷ freshGroup) (place 9 none 5 (free 2 (free 3 (free 4 (free 5 (free 6 (free 7 (free none [])))))))) ∷ remove 9 (rect 1 1 2 2) 1
+    ∷ words freshNodes (free 1 (free 2 (free 3 (free 4 (free 5 (free 6 (free 7 (free none [])))))))) ∷ []
+    )
     ∷ []
 
 pub all-pass : passAll table ≡ true
 unfolding flat intersects middle within inverted near farOut W bitsWithin bitLength halvings D contains rootRect
     rootCell rootData childCentre quarterCell childCell childData quadrant routeCell bothTests opens mayDivide
     fresh inserted splitsMade splitsNeeded removed foundBy cleaned cleans listed opensFor
-    insertRule removeRule cleanupRule queryRule allRule isHit matches indicator changed maxZ minZ
+    insertRule removeRule cleanupRule queryRule allRule goodInk shows bitAt isHit matches indicator changed maxZ minZ
 all-pass = refl
 
 pub further-pass : passAll further ≡ true
 unfolding flat intersects middle within inverted near farOut W bitsWithin bitLength halvings D contains rootRect
     rootCell rootData childCentre quarterCell childCell childData quadrant routeCell bothTests opens mayDivide
     fresh inserted splitsMade splitsNeeded removed foundBy cleaned cleans listed opensFor leafRow leafNumber dotCount
-    insertRule removeRule cleanupRule queryRule allRule leavesRule referencesRule isHit matches indicator changed maxZ minZ layout none branchMark
+    insertRule removeRule cleanupRule queryRule allRule leavesRule referencesRule goodInk shows bitAt isHit matches indicator changed
+    maxZ minZ layout none branchMark
 further-pass = refl

@@ -7,6 +7,7 @@ ghost use Rattle.query_export.specs.Answers.{Lists};
 use geometry::aabb::AABB;
 use krakvinge::answers::query_out;
 use krakvinge::rows::state_in;
+use model::Window;
 use tree_query::query::query_row;
 
 // The rows and the result as krakvinge's query has them.
@@ -20,15 +21,16 @@ pub extern "C" fn krakvinge_query_unchecked(
     y1: i32,
     x2: i32,
     y2: i32,
+    inks: u16,
     ids: &mut [u32],
     answer: &mut [u32],
 ) -> u64
     requires { ⌜ (length (now state) ≡ 10) × (length (now answer) ≡ 2) × IsTree (stateIn (now state)) (now nodes) (now dots) (now rects) ⌝ }
-    ensures { λ r. ⌜ Lists (rectOf x1 y1 x2 y2) (now (state .entry)) (now (nodes .entry)) (now (dots .entry)) (now (rects .entry)) (now (ids .entry))
-        (now (answer .entry)) (now (ids .exit)) (now (answer .exit)) r ⌝ }
+    ensures { λ r. ⌜ Lists (record { rect = rectOf x1 y1 x2 y2; inks = inks }) (now (state .entry)) (now (nodes .entry)) (now (dots .entry))
+        (now (rects .entry)) (now (ids .entry)) (now (answer .entry)) (now (ids .exit)) (now (answer .exit)) r ⌝ }
 {
     let before = state_in(state);
     let rect = AABB { x1, y1, x2, y2 };
-    let done = query_row(before, nodes, dots, rects, rect, ids);
+    let done = query_row(before, nodes, dots, rects, Window { rect, inks }, ids);
     query_out(answer, done)
 }

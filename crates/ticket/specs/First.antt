@@ -50,8 +50,9 @@ pub record NoStart (w : World) (r : Start) (w′ : World) (out : Output) : Type 
 
 abbrev pub FirstAnswer : World → Line → Start → World → Output → Type 0
 FirstAnswer w (line.Call (call.Settings s)) r w′ out = MakeLine w s r w′ out
-FirstAnswer w (line.Call (call.Insert d)) r w′ out = NoStart w r w′ out
-FirstAnswer w (line.Call (call.Remove d)) r w′ out = NoStart w r w′ out
+FirstAnswer w (line.Call (call.Insert id x)) r w′ out = NoStart w r w′ out
+FirstAnswer w (line.Call (call.InsertInk d)) r w′ out = NoStart w r w′ out
+FirstAnswer w (line.Call (call.Remove id x)) r w′ out = NoStart w r w′ out
 FirstAnswer w (line.Call call.Cleanup) r w′ out = NoStart w r w′ out
 FirstAnswer w (line.Call (call.Query q)) r w′ out = NoStart w r w′ out
 FirstAnswer w line.Unreadable r w′ out = NoStart w r w′ out

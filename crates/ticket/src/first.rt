@@ -70,8 +70,9 @@ pub fn answer_first(
     };
     match call {
         Call::Settings(settings) => answer_settings(settings, nodes, dots, rects, marks, out),
-        Call::Insert(_) => end_nine(out),
-        Call::Remove(_) => end_nine(out),
+        Call::Insert(_, _) => end_nine(out),
+        Call::InsertInk(_) => end_nine(out),
+        Call::Remove(_, _) => end_nine(out),
         Call::Cleanup => end_nine(out),
         Call::Query(_) => end_nine(out),
     }

@@ -18,6 +18,7 @@ use lines::line::Line;
 use lines::line::read_line;
 use model::Dot;
 use model::State;
+use model::Window;
 use model::answers::CleanupAnswer;
 use model::answers::InsertAnswer;
 use model::answers::QueryAnswer;
@@ -62,27 +63,27 @@ fn answer_remove(
     dots: &mut [u32],
     rects: &mut [i32],
     marks: &mut [u8],
-    dot: Dot,
+    id: u32,
+    rect: AABB,
     out: &mut [u8],
 ) -> Step
     requires { ⌜ 24 ≤ length (now out) ⌝ }
     ensures { λ r. ⌜ r .next ≤ length (now (out .exit)) ⌝ }
-    ensures { λ r. ⌜ RemoveLine (world state (now (nodes .entry)) (now (dots .entry)) (now (rects .entry)) (now (marks .entry))) dot
+    ensures { λ r. ⌜ RemoveLine (world state (now (nodes .entry)) (now (dots .entry)) (now (rects .entry)) (now (marks .entry))) id rect
         (world (r .state) (now (nodes .exit)) (now (dots .exit)) (now (rects .exit)) (now (marks .exit)))
         (output (now (out .entry)) (now (out .exit)) (r .next)) ⌝ }
 {
-    let rect = dot.rect;
-    match remove(state, nodes, dots, rects, marks, dot.id, rect) {
+    match remove(state, nodes, dots, rects, marks, id, rect) {
         RemoveAnswer::Refused(number) => {
             let next = answer_one(out, b'E', number);
             Step { state, next }
         }
         RemoveAnswer::Yes(after) => {
-            let next = answer_two(out, b'D', dot.id, 1);
+            let next = answer_two(out, b'D', id, 1);
             Step { state: after, next }
         }
         RemoveAnswer::No => {
-            let next = answer_two(out, b'D', dot.id, 0);
+            let next = answer_two(out, b'D', id, 0);
             Step { state, next }
         }
     }
@@ -120,17 +121,17 @@ fn answer_listing(
     dots: &[u32],
     rects: &[i32],
     marks: &mut [u8],
-    rect: AABB,
+    window: Window,
     row: &mut [u32],
     out: &mut [u8],
 ) -> Step
     requires { ⌜ 24 + 11 * length (now row) ≤ length (now out) ⌝ }
     ensures { λ r. ⌜ r .next ≤ length (now (out .exit)) ⌝ }
-    ensures { λ r. ⌜ QueryLine (world state (now (nodes .entry)) (now (dots .entry)) (now (rects .entry)) (now (marks .entry))) rect
+    ensures { λ r. ⌜ QueryLine (world state (now (nodes .entry)) (now (dots .entry)) (now (rects .entry)) (now (marks .entry))) window
         (now (row .entry)) (world (r .state) (now (nodes .exit)) (now (dots .exit)) (now (rects .exit)) (now (marks .exit))) (now (row .exit))
         (output (now (out .entry)) (now (out .exit)) (r .next)) ⌝ }
 {
-    match query(state, nodes, dots, rects, marks, rect, row) {
+    match query(state, nodes, dots, rects, marks, window, row) {
         QueryAnswer::Refused(number) => {
             let next = answer_one(out, b'E', number);
             Step { state, next }
@@ -156,6 +157,7 @@ fn answer_nine(state: State, out: &mut [u8]) -> Step
     Step { state, next }
 }
 
+// The call that a line is: an insert without an ink has ink 0, and a query asks for all inks.
 fn answer_call(
     state: State,
     nodes: &mut [u32],
@@ -174,10 +176,17 @@ fn answer_call(
 {
     match call {
         Call::Settings(_) => answer_nine(state, out),
-        Call::Insert(dot) => answer_insert(state, nodes, dots, rects, marks, dot, out),
-        Call::Remove(dot) => answer_remove(state, nodes, dots, rects, marks, dot, out),
+        Call::Insert(id, rect) => {
+            let dot = Dot { id, rect, ink: 0 };
+            answer_insert(state, nodes, dots, rects, marks, dot, out)
+        }
+        Call::InsertInk(dot) => answer_insert(state, nodes, dots, rects, marks, dot, out),
+        Call::Remove(id, rect) => answer_remove(state, nodes, dots, rects, marks, id, rect, out),
         Call::Cleanup => answer_cleanup(state, nodes, dots, rects, marks, out),
-        Call::Query(rect) => answer_listing(state, nodes, dots, rects, marks, rect, row, out),
+        Call::Query(rect) => {
+            let window = Window::all_inks(rect);
+            answer_listing(state, nodes, dots, rects, marks, window, row, out)
+        }
     }
 }
 

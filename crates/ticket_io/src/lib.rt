@@ -219,7 +219,7 @@ pub extern "C" fn krakvinge_dotcheck() -> u32
     ensures { λ r. ⌜ r ≤ 1 ⌝ }
 {
     let mut nodes = [0u32; 5122];
-    let mut dots = [0u32; 2048];
+    let mut dots = [0u32; 3072];
     let mut rects = [0i32; 4096];
     let mut marks = [0u8; 1536];
     let mut row = [0u32; 1024];

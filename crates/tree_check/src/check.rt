@@ -1,7 +1,5 @@
 // The whole check.
 ghost use mathlib.Core.Path.{_≡_};
-ghost use Prim.Native.Nat.{_/_};
-ghost use lib.ListN.{length};
 ghost use Rattle.model.specs.Layout.{world};
 ghost use Rattle.tree_check.specs.Checks.{CheckReady, Decided, answerOf, Checked};
 use crate::chain::check_chain;
@@ -10,18 +8,26 @@ use crate::marks::all_marked;
 use crate::region::Gate;
 use crate::region::Region;
 use crate::tree::check_node;
+use memory::lengths::groups_in;
 use memory::lengths::lengths_fit;
+use memory::lengths::places_in;
 use memory::marks::clear_marks;
 use memory::node::Node;
 use model::State;
 
 // Whether the memory, whose marks are 0, is a tree; leaves marks behind.
-fn is_tree(state: State, nodes: &[u32], dots: &[u32], rects: &[i32], marks: &mut [u8]) -> bool
-    requires { ⌜ CheckReady state (now nodes) (now dots) (now rects) (now marks) (length (now dots) / 2) (length (now nodes) / 10) ⌝ }
+fn is_tree(
+    state: State,
+    nodes: &[u32],
+    dots: &[u32],
+    rects: &[i32],
+    marks: &mut [u8],
+    places: usize,
+    groups: usize,
+) -> bool
+    requires { ⌜ CheckReady state (now nodes) (now dots) (now rects) (now marks) places groups ⌝ }
     ensures { λ r. ⌜ Decided (world state (now (nodes .entry)) (now (dots .entry)) (now (rects .entry)) (now (marks .entry))) r ⌝ }
 {
-    let places = dots.len() / 2;
-    let groups = nodes.len() / 10;
     let live = state.live as usize;
     if live > places {
         return false;
@@ -64,7 +70,9 @@ pub fn check(state: State, nodes: &[u32], dots: &[u32], rects: &[i32], marks: &m
         return 2;
     }
     clear_marks(marks);
-    let tree = is_tree(state, nodes, dots, rects, marks);
+    let places = places_in(dots);
+    let groups = groups_in(nodes);
+    let tree = is_tree(state, nodes, dots, rects, marks, places, groups);
     clear_marks(marks);
     answer(tree)
 }

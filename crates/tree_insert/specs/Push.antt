@@ -6,14 +6,14 @@ use Prim.Native.Nat.{ℕ, _+_, _<_}
 use lib.IntN.{ℤ}
 use Rattle.model.specs.declared.Dot.{Dot}
 use Rattle.model.specs.Memory.{firstAt, countAt}
-use Rattle.memory.specs.Rows.{HasNode, HasPlace, HasRect, setNodeAt, setNextAt, setIdAt, setRectAt}
+use Rattle.memory.specs.Rows.{HasNode, HasPlace, HasRect, setNodeAt, setNextAt, setDotAt, setRectAt}
 
 -- the rows once the dot stands at the place p and heads the chain of the node a
 abbrev pub pushedNodes : List ℕ → ℕ → ℕ → List ℕ
 pushedNodes nodes a p = setNodeAt nodes a (record { first = p; count = countAt nodes a + 1 })
 
 abbrev pub pushedDots : List ℕ → List ℕ → ℕ → ℕ → Dot → List ℕ
-pushedDots nodes dots a p dot = setNextAt (setIdAt dots p (dot .id)) p (firstAt nodes a)
+pushedDots nodes dots a p dot = setNextAt (setDotAt dots p dot) p (firstAt nodes a)
 
 abbrev pub pushedRects : List ℤ → ℕ → Dot → List ℤ
 pushedRects rects p dot = setRectAt rects p (dot .rect)

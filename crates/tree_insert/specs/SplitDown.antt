@@ -14,6 +14,7 @@ use Rattle.geometry.specs.declared.settings.Settings.{Settings}
 use Rattle.geometry.specs.declared.aabb.AABB.{AABB}
 use Rattle.geometry.specs.Settings.{inRange}
 use Rattle.geometry.specs.Cells.{InRange}
+use Rattle.model.specs.Layout.{dotsFor}
 use Rattle.model.specs.Trees.{Tree, Placed, leaf}
 use Rattle.model.specs.Insert.{insertAt, Grown}
 use Rattle.model.specs.declared.Dot.{Dot}
@@ -48,7 +49,7 @@ pub record Inserting (x : Shape) (dot : Dot) (placeHead : ℕ) (nodes dots : Lis
   pub levels : ℕ
   pub settings : inRange (x .settings) ≡ true
   pub nodesFit : length nodes ≡ 2 + 10 * x .groups
-  pub dotsFit : length dots ≡ 2 * x .places
+  pub dotsFit : length dots ≡ dotsFor (x .places)
   pub rectsFit : length rects ≡ 4 * x .places
   pub reach : Reach tree path
   pub here : sub tree path ≡ leaf chain

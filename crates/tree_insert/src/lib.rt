@@ -18,6 +18,7 @@ use crate::needed::Needed;
 use crate::needed::splits_needed;
 use crate::split::push_place;
 use crate::split::split_down;
+use memory::lengths::places_in;
 use memory::node::node_at;
 use memory::places::next_at;
 use memory::places::set_dot;
@@ -67,7 +68,7 @@ fn insert_at(
     state.changed(reached.group, next, state.live + 1)
 }
 
-// Inserts a dot: refusals 4 to 7 store nothing, and the answer is the number of splits.
+// Inserts a dot: refusals 4, 10, 5, 6, 7 store nothing, and the answer is the number of splits.
 pub fn insert_dot(
     state: State,
     nodes: &mut [u32],
@@ -84,12 +85,15 @@ pub fn insert_dot(
     if rect.is_inverted() | rect.is_far_out() {
         return InsertAnswer::Refused(4);
     }
+    if !dot.has_good_ink() {
+        return InsertAnswer::Refused(10);
+    }
     if !settings.root().contains(rect) {
         return InsertAnswer::Refused(5);
     }
     // The live dots, with this one.
     let live = state.live as usize + 1;
-    if dots.len() / 2 < live {
+    if places_in(dots) < live {
         return InsertAnswer::Refused(6);
     }
     let leaf = find_leaf(settings, nodes, rect);

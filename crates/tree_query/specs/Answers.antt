@@ -7,7 +7,7 @@ use mathlib.Core.List.{List}
 use Prim.Native.Nat.{ℕ}
 use lib.IntN.{ℤ}
 use lib.ListN.{length, replicate}
-use Rattle.geometry.specs.declared.aabb.AABB.{AABB}
+use Rattle.model.specs.declared.Window.{Window}
 use Rattle.model.specs.declared.State.{State}
 use Rattle.model.specs.Shapes.{Shape, listed, opensFor, leaves}
 use Rattle.model.specs.Layout.{world, Holds}
@@ -15,17 +15,17 @@ use Rattle.model.specs.declared.answers.Found.{Found}
 use Rattle.model.specs.Calls.{Reply, exit, carriedOut, queryRule, leavesRule}
 use Rattle.tree_query.specs.Rows.{keptAll}
 
-abbrev pub foundIn : AABB → Shape → Found
-foundIn q x = record { hits = length (listed q x); opened = opensFor q x }
+abbrev pub foundIn : Window → Shape → Found
+foundIn q x = record { hits = length (listed q x); opened = opensFor (q .rect) x }
 
-unfoldable pub Met : State → AABB → List ℕ → List ℕ → List ℤ → ℕ → List ℕ → List ℕ → Found → Type 0
+unfoldable pub Met : State → Window → List ℕ → List ℕ → List ℤ → ℕ → List ℕ → List ℕ → Found → Type 0
 Met s q nodes dots rects room row row′ r =
     (marks : List ℕ) (x : Shape) → Holds (world s nodes dots rects marks) x → (r ≡ foundIn q x) × (row′ ≡ keptAll room row 0 (listed q x))
 
-unfoldable pub Counted : State → AABB → List ℕ → List ℕ → List ℤ → Found → Type 0
+unfoldable pub Counted : State → Window → List ℕ → List ℕ → List ℤ → Found → Type 0
 Counted s q nodes dots rects r = (marks : List ℕ) (x : Shape) → Holds (world s nodes dots rects marks) x → r ≡ foundIn q x
 
-unfoldable pub Queried : State → AABB → List ℕ → List ℕ → List ℤ → List ℕ → List ℕ → Reply Found → Type 0
+unfoldable pub Queried : State → Window → List ℕ → List ℕ → List ℤ → List ℕ → List ℕ → Reply Found → Type 0
 Queried s q nodes dots rects row row′ reply =
     (marks : List ℕ) (x : Shape) → Holds (world s nodes dots rects marks) x
     → exit (world s nodes dots rects (replicate (length marks) 0)) row′ reply ≡ carriedOut (world s nodes dots rects marks) row (queryRule q (length row) x)

@@ -1,20 +1,24 @@
 -- What the query's walk (§8.2, §8.3) asks of the words, and what it leaves.
 --     joinLast, sumLast            over the last children of a group
 --     chainHits, groupHits, groupOpened    what a walk lists and opens
+--     nextOpened                   the first of the children left that is opened
 --     after, rowAfter, Left        what it has found, and the row, once some dots are listed and some nodes opened
 --     CanGrow                      the counts may still grow by so much
 --     ChainWalk, ChainWalked, NodeWalk, NodeWalked, GroupWalk, GroupWalked     the contracts of the walks
 use mathlib.Core.Path.{_≡_}
 use mathlib.Core.List.{List, [], _++_, map}
-use mathlib.Core.Bool.{cond}
+use mathlib.Core.Bool.{Bool, cond, _||_}
 use Prim.Native.Nat.{ℕ, zero, suc, _+_, _-_, _≤_, _<_}
 use lib.IntN.{ℤ}
+use lib.Dec.{eqb}
 use lib.ListN.{length}
+use Rattle.arithmetic.specs.Bits.{bitAt}
 use Rattle.geometry.specs.declared.aabb.AABB.{AABB}
 use Rattle.geometry.specs.declared.centered_aabb.CenteredAABB.{CenteredAABB}
 use Rattle.geometry.specs.declared.node_data.NodeData.{NodeData}
 use Rattle.geometry.specs.declared.quadrants.Quadrants.{Quadrants}
 use Rattle.geometry.specs.Cells.{childData, opens, InRange, cellCode}
+use Rattle.model.specs.declared.Window.{Window}
 use Rattle.model.specs.declared.Dot.{Dot}
 use Rattle.model.specs.Lists.{All, filter}
 use Rattle.model.specs.Dots.{isHit}
@@ -37,20 +41,28 @@ sumLast (suc left) f = f (5 - suc left) + sumLast left f
 
 -- ---- what a walk meets
 
-abbrev pub chainHits : AABB → List Placed → List Placed
+abbrev pub chainHits : Window → List Placed → List Placed
 chainHits q chain = filter (λ d. isHit q (d .dot)) chain
 
-abbrev pub groupHits : AABB → NodeData → (ℕ → Tree) → ℕ → List Placed
-groupHits q n f left = joinLast left (λ i. cond (opens q n i) (hits q (childData n i) (f i)) [])
+abbrev pub groupHits : Window → NodeData → (ℕ → Tree) → ℕ → List Placed
+groupHits q n f left = joinLast left (λ i. cond (opens (q .rect) n i) (hits q (childData n i) (f i)) [])
 
 abbrev pub groupOpened : AABB → NodeData → (ℕ → Tree) → ℕ → ℕ
 groupOpened q n f left = sumLast left (λ i. cond (opens q n i) (opened q (childData n i) (f i)) 0)
 
+-- §8.2, by the code's bits: how many children are left from the first of them on that is opened
+abbrev pub opensBit : ℕ → ℕ → Bool
+opensBit code i = eqb i 0 || bitAt code i
+
+abbrev pub nextOpened : ℕ → ℕ → ℕ
+nextOpened code zero = 0
+nextOpened code (suc left) = cond (opensBit code (5 - suc left)) (suc left) (nextOpened code left)
+
 -- a dot: the hits, and the row, once it has been looked at
-unfoldable pub hitsAfter : AABB → Dot → ℕ → ℕ
+unfoldable pub hitsAfter : Window → Dot → ℕ → ℕ
 hitsAfter q d at = cond (isHit q d) (at + 1) at
 
-unfoldable pub rowWith : AABB → Dot → ℕ → List ℕ → ℕ → List ℕ
+unfoldable pub rowWith : Window → Dot → ℕ → List ℕ → ℕ → List ℕ
 rowWith q d room row at = cond (isHit q d) (kept room row at (d .id)) row
 
 abbrev pub ids : List Placed → List ℕ
@@ -82,7 +94,7 @@ pub record ChainWalk (dots : List ℕ) (rects : List ℤ) (room : ℕ) (row : Li
   pub fits : room ≤ length row
   pub grows : CanGrow found count 0
 
-unfoldable pub ChainWalked : AABB → List ℕ → List ℤ → ℕ → List ℕ → Found → ℕ → ℕ → List ℕ → Found → Type 0
+unfoldable pub ChainWalked : Window → List ℕ → List ℤ → ℕ → List ℕ → Found → ℕ → ℕ → List ℕ → Found → Type 0
 ChainWalked q dots rects room row found head count row′ r =
     (chain : List Placed) → Chained (read [] dots rects) head chain none → length chain ≡ count → Left room row found (chainHits q chain) 0 row′ r
 
@@ -93,11 +105,11 @@ pub record NodeWalk (cell : CenteredAABB) (nodes dots : List ℕ) (rects : List 
   pub fits : room ≤ length row
   pub cellFits : InRange cell
 
-unfoldable pub NodeWalked : AABB → CenteredAABB → List ℕ → List ℕ → List ℤ → ℕ → List ℕ → Found → ℕ → ℕ → List ℕ → Found → Type 0
+unfoldable pub NodeWalked : Window → CenteredAABB → List ℕ → List ℕ → List ℤ → ℕ → List ℕ → Found → ℕ → ℕ → List ℕ → Found → Type 0
 NodeWalked q cell nodes dots rects room row found a levels row′ r =
-    (t : Tree) (n : NodeData) → TreeStands nodes dots rects levels a t → n .cell ≡ cell → Left room row found (hits q n t) (opened q n t) row′ r
+    (t : Tree) (n : NodeData) → TreeStands nodes dots rects levels a t → n .cell ≡ cell → Left room row found (hits q n t) (opened (q .rect) n t) row′ r
 
-pub record GroupWalk (q : AABB) (cell : CenteredAABB) (quadrants : Quadrants) (nodes dots : List ℕ) (rects : List ℤ)
+pub record GroupWalk (q : Window) (cell : CenteredAABB) (quadrants : Quadrants) (nodes dots : List ℕ) (rects : List ℤ)
     (room : ℕ) (row : List ℕ) (found : Found) (first levels left : ℕ) : Type 0 where
   pub group : ℕ
   pub children : ℕ → Tree
@@ -107,10 +119,10 @@ pub record GroupWalk (q : AABB) (cell : CenteredAABB) (quadrants : Quadrants) (n
   pub grows : CanGrow found (sumLast left (λ i. size (children i))) (sumLast left (λ i. nodeTotal (children i)))
   pub fits : room ≤ length row
   pub cellFits : InRange cell
-  pub code : quadrants .code ≡ cellCode cell q
+  pub code : quadrants .code ≡ cellCode cell (q .rect)
 
-unfoldable pub GroupWalked : AABB → CenteredAABB → List ℕ → List ℕ → List ℤ → ℕ → List ℕ → Found → ℕ → ℕ → ℕ → List ℕ → Found → Type 0
+unfoldable pub GroupWalked : Window → CenteredAABB → List ℕ → List ℕ → List ℤ → ℕ → List ℕ → Found → ℕ → ℕ → ℕ → List ℕ → Found → Type 0
 GroupWalked q cell nodes dots rects room row found first levels left row′ r =
     (g : ℕ) (f : ℕ → Tree) (n : NodeData) → first ≡ childNode g 0
     → ((i : ℕ) → 5 ≤ i + left → i < 5 → TreeStands nodes dots rects levels (childNode g i) (f i)) → n .cell ≡ cell
-    → Left room row found (groupHits q n f left) (groupOpened q n f left) row′ r
+    → Left room row found (groupHits q n f left) (groupOpened (q .rect) n f left) row′ r

@@ -1,13 +1,13 @@
-// Query: the ids of the dots that a rectangle meets, and the nodes opened.
+// Query: the ids of the dots that a window asks for, and the nodes opened.
 ghost use Prim.Native.Nat.{_≤_};
 ghost use lib.ListN.{length};
 ghost use Rattle.model.specs.Answers.{queryReply};
 ghost use Rattle.tree.specs.Operations.{IsTree};
 ghost use Rattle.tree_query.specs.Answers.{Met, Counted, Queried};
 use crate::walk::walk_node;
-use geometry::aabb::AABB;
 use geometry::centered_aabb::CenteredAABB;
 use model::State;
+use model::Window;
 use model::answers::Found;
 use model::answers::QueryAnswer;
 
@@ -17,7 +17,7 @@ fn list_hits(
     nodes: &[u32],
     dots: &[u32],
     rects: &[i32],
-    query: AABB,
+    query: Window,
     row: &mut [u32],
     room: usize,
 ) -> Found
@@ -31,8 +31,8 @@ fn list_hits(
     walk_node(nodes, dots, rects, 0, levels, cell, query, found, row, room)
 }
 
-// How many dots the query meets, and the nodes opened.
-pub fn count_hits(state: State, nodes: &[u32], dots: &[u32], rects: &[i32], query: AABB) -> Found
+// How many dots the query lists, and the nodes opened.
+pub fn count_hits(state: State, nodes: &[u32], dots: &[u32], rects: &[i32], query: Window) -> Found
     requires { ⌜ IsTree state (now nodes) (now dots) (now rects) ⌝ }
     ensures { λ r. ⌜ Counted state query (now (nodes .entry)) (now (dots .entry)) (now (rects .entry)) r ⌝ }
 {
@@ -46,7 +46,7 @@ pub fn query_row(
     nodes: &[u32],
     dots: &[u32],
     rects: &[i32],
-    query: AABB,
+    query: Window,
     row: &mut [u32],
 ) -> QueryAnswer
     requires { ⌜ IsTree state (now nodes) (now dots) (now rects) ⌝ }

@@ -1,10 +1,9 @@
-// The walk of a query: it counts the dots that intersect, lists them as far as there is room, and counts the nodes opened.
+// The walk of a query: it counts the dots that it asks for, lists them as far as there is room, and counts the nodes opened.
 ghost use mathlib.Core.Path.{_≡_};
 ghost use Prim.Native.Nat.{_≤_, _<_};
 ghost use lib.ListN.{length};
 ghost use Rattle.tree_query.specs.Rows.{kept};
-ghost use Rattle.tree_query.specs.Walks.{hitsAfter, rowWith, ChainWalk, NodeWalk, GroupWalk, ChainWalked, NodeWalked, GroupWalked};
-use geometry::aabb::AABB;
+ghost use Rattle.tree_query.specs.Walks.{nextOpened, hitsAfter, rowWith, ChainWalk, NodeWalk, GroupWalk, ChainWalked, NodeWalked, GroupWalked};
 use geometry::centered_aabb::CenteredAABB;
 use geometry::quadrants::Quadrants;
 use memory::node::Node;
@@ -12,6 +11,7 @@ use memory::node::node_at;
 use memory::places::dot_at;
 use memory::places::next_at;
 use model::Dot;
+use model::Window;
 use model::answers::Found;
 
 // Writes an id at a position of the row, where there is room.
@@ -24,28 +24,28 @@ fn keep(row: &mut [u32], room: usize, at: usize, id: u32)
     }
 }
 
-// Lists a dot where the query meets it; how many are then listed. A rectangle out of reach needs no closer test.
-fn list_dot(query: AABB, dot: Dot, hits: u32, row: &mut [u32], room: usize) -> u32
+// Lists a dot where the query asks for it; how many are then listed. A rectangle out of reach needs no closer test.
+fn list_dot(query: Window, dot: Dot, hits: u32, row: &mut [u32], room: usize) -> u32
     requires { ⌜ (room ≤ length (now row)) × (hits < 65536) ⌝ }
     ensures { λ r. ⌜ (r ≡ hitsAfter query dot hits) × (now (row .exit) ≡ rowWith query dot room (now (row .entry)) hits) ⌝ }
 {
-    let rect = dot.rect;
-    if !query.reaches(rect) {
+    let rect = query.rect;
+    if !rect.reaches(dot.rect) {
         return hits;
     }
-    if !query.intersects_with(rect) {
+    if !query.is_hit(dot) {
         return hits;
     }
     keep(row, room, hits as usize, dot.id);
     hits + 1
 }
 
-// Lists the dots of a leaf's chain that the query meets.
+// Lists the dots of a leaf's chain that the query asks for.
 fn walk_chain(
     dots: &[u32],
     rects: &[i32],
     leaf: Node,
-    query: AABB,
+    query: Window,
     found: Found,
     row: &mut [u32],
     room: usize,
@@ -75,6 +75,22 @@ struct Group {
     quadrants: Quadrants,
 }
 
+// How many of the last `left` children there are from the first of them on that the query opens; 0 where it opens none.
+fn next_opened(quadrants: Quadrants, left: u32) -> u32
+    requires { ⌜ left ≤ 5 ⌝ }
+    ensures { λ r. ⌜ r ≡ nextOpened (quadrants .code) left ⌝ }
+{
+    let mut rest = left;
+    while rest > 0 {
+        let child = 5 - rest;
+        if (child == 0) | quadrants.at(child) {
+            return rest;
+        }
+        rest -= 1;
+    }
+    0
+}
+
 // Opens a node: lists its chain, or hands its group on.
 pub fn walk_node(
     nodes: &[u32],
@@ -83,7 +99,7 @@ pub fn walk_node(
     node: usize,
     levels: u32,
     cell: CenteredAABB,
-    query: AABB,
+    query: Window,
     found: Found,
     row: &mut [u32],
     room: usize,
@@ -100,7 +116,7 @@ pub fn walk_node(
     if !words.is_branch() {
         return walk_chain(dots, rects, words, query, opened, row, room);
     }
-    let quadrants = cell.explore_quadrants(query);
+    let quadrants = cell.explore_quadrants(query.rect);
     let group = Group {
         first: words.first as usize,
         levels: levels - 1,
@@ -117,7 +133,7 @@ fn walk_group(
     rects: &[i32],
     group: Group,
     left: u32,
-    query: AABB,
+    query: Window,
     found: Found,
     row: &mut [u32],
     room: usize,
@@ -127,15 +143,11 @@ fn walk_group(
     ensures { λ r. ⌜ GroupWalked query (group .cell) (now (nodes .entry)) (now (dots .entry)) (now (rects .entry)) room (now (row .entry)) found
         (group .first) (group .levels) left (now (row .exit)) r ⌝ }
 {
-    if left == 0 {
+    let open = next_opened(group.quadrants, left);
+    if open == 0 {
         return found;
     }
-    let child = 5 - left;
-    let rest = left - 1;
-    let quadrants = group.quadrants;
-    if !((child == 0) | quadrants.at(child)) {
-        return walk_group(nodes, dots, rects, group, rest, query, found, row, room);
-    }
+    let child = 5 - open;
     let cell = group.cell;
     let node = group.first + child as usize;
     let below = cell.split(child);
@@ -151,5 +163,5 @@ fn walk_group(
         row,
         room,
     );
-    walk_group(nodes, dots, rects, group, rest, query, met, row, room)
+    walk_group(nodes, dots, rects, group, open - 1, query, met, row, room)
 }

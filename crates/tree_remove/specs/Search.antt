@@ -11,7 +11,7 @@ use lib.ListN.{length}
 use lib.Dec.{eqb}
 use Rattle.model.specs.Dots.{matches}
 use Rattle.model.specs.Trees.{Placed}
-use Rattle.model.specs.Layout.{none}
+use Rattle.model.specs.Layout.{dotsFor, none}
 use Rattle.model.specs.Memory.{idAt, nextAt}
 use Rattle.memory.specs.declared.node.Node.{Node}
 use Rattle.memory.specs.Rows.{HasPlace, setNextAt}
@@ -27,7 +27,7 @@ Linked dots h n [] = n ≡ 0
 Linked dots h n (d ∷ ds) = (h ≡ d .place) × HasPlace dots h × (idAt dots h ≡ d .dot .id) × (1 ≤ n) × Linked dots (nextAt dots h) (n - 1) ds
 
 pub record Searchable (dots : List ℕ) (node : Node) : Type 0 where
-  pub short : length dots ≤ 131072
+  pub short : length dots ≤ dotsFor 65536
   pub chain : List Placed
   pub linked : Linked dots (node .first) (node .count) chain
 

@@ -7,7 +7,7 @@ ghost use Rattle.model.specs.Layout.{none};
 ghost use Rattle.model.specs.Trees.{Placed};
 ghost use Rattle.model.specs.Calls.{removeRule};
 ghost use Rattle.model.specs.Answers.{removeState, removeReply};
-ghost use Rattle.memory.specs.Rows.{HasNode, HasPlace, HasRect, setNodeAt, setNextAt, setIdAt, setRectAt};
+ghost use Rattle.memory.specs.Rows.{HasNode, HasPlace, HasRect, setNodeAt, setNextAt, setDotAt, setRectAt};
 ghost use Rattle.tree.specs.Operations.{IsTree, CarriedOut};
 ghost use Rattle.tree_remove.specs.Search.{Searchable, hitIn, Linked, unlinkedNode, unlinkedDots};
 use geometry::aabb::AABB;
@@ -87,16 +87,10 @@ fn unlink(nodes: &mut [u32], dots: &mut [u32], node: usize, leaf: Node, hit: Hit
 // Frees a place: it heads the free places.
 fn free_place(dots: &mut [u32], rects: &mut [i32], place: usize, head: u32)
     requires { ⌜ HasPlace (now dots) place × HasRect (now rects) place ⌝ }
-    ensures { λ _. ⌜ (now (dots .exit) ≡ setNextAt (setIdAt (now (dots .entry)) place (zeroDot .id)) place head)
+    ensures { λ _. ⌜ (now (dots .exit) ≡ setNextAt (setDotAt (now (dots .entry)) place zeroDot) place head)
         × (now (rects .exit) ≡ setRectAt (now (rects .entry)) place (zeroDot .rect)) ⌝ }
 {
-    let rect = AABB {
-        x1: 0,
-        y1: 0,
-        x2: 0,
-        y2: 0,
-    };
-    set_dot(dots, rects, place, Dot { id: 0, rect });
+    set_dot(dots, rects, place, Dot::zero());
     set_next(dots, place, head);
 }
 

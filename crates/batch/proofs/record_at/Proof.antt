@@ -49,6 +49,10 @@ use Rattle.batch.proofs.«record_at».Code as code
 abbrev stayed : Stays (fn.ended .signature .params) (fn.ended .kept)
 stayed = (stay-none-slice (0 ∷ []) tt (plain (λ _. R.the-row)) yes, (stay-none (λ _. usize) yes, tt))
 
+-- a record's: seven words
+abbrev bytes : ℕ
+bytes = 28
+
 module _ {M : Type 1} (𝓤 : URA M) (H : Heap 𝓤) (A : Atoms 𝓤) (W : Given 𝓤 H A) (mem : Memory → SProp 𝓤) (run : Routine → Fun 𝓤) (κ : Lft) (q : Share)
     (b o : ℕ) (γ : GName) (ys : List Record) (i : ℕ) where
   abbrev x : RefT (List Record)
@@ -77,7 +81,7 @@ module _ {M : Type 1} (𝓤 : URA M) (H : Heap 𝓤) (A : Atoms 𝓤) (W : Given
       frame ! $ frame ! $ done !
 
   module _ (C : Calls 𝓤 H) (Λ : Loops 𝓤 H) where
-    walk : Room R.the-row (length ys) → i < 2 ^ 64 → i * 24 < 2 ^ 64 → i < length ys
+    walk : Room R.the-row (length ys) → i < 2 ^ 64 → i * bytes < 2 ^ 64 → i < length ys
         → ent 𝓤 (onEntry 𝓤 H A fn.signature (κ, tt) (q, tt) (x, (i, tt)) at) (WpFn 𝓤 H C Λ code.function (sliceVal (b, o) (length ys) ∷ vint w64 i ∷ []) Post)
     walk gn gi gm l =
         qed W ((‵ (flft κ q) ⊛ ‵ ftrue) ∷ ‵ (owns (ShrSlice (named 0) κ R.the-row ∷ usize ∷ []) (x, (i, tt)) at) ∷ []) ∵ enter ! C Λ code.function
@@ -88,7 +92,7 @@ module _ {M : Type 1} (𝓤 : URA M) (H : Heap 𝓤) (A : Atoms 𝓤) (W : Given
         (init ! 4 refl (tt, record { fits = gm })) $
         assigns ! (bin ! (load ! (from ! (fld ! refl (stop !))) (look-in ! 8 (sub ! 0 refl (whole !)))) (load ! (from ! (stop !)) (look ! 4 refl)) tt)
         (from ! (stop !)) (init ! 2 refl (tt, tt)) $
-        rewrite ! 2 (λ (p : ℕ). ‵ (fat fullShare tyPtr l₄ 0 (vptr b p))) (sym (place-is 24 o i)) refl $
+        rewrite ! 2 (λ (p : ℕ). ‵ (fat fullShare tyPtr l₄ 0 (vptr b p))) (sym (place-is bytes o i)) refl $
         move ! (13 ∷ []) $ fsplit ! $ fsplit ! $ move ! (1 ∷ []) $ fsplit ! $ move ! (16 ∷ []) $ split ! $ move ! (3 ∷ 0 ∷ []) $
         looks-slice ! tt R.the-row (Is R.the-row) (shows 𝓤 H A R.the-row) (LL.vals R.the-type R′.the-laws) (LL.tells R.the-type R′.the-laws)
         (LL.copy R.the-type R′.the-copy 𝓤 H A W) ys b o (λ q′.
@@ -110,7 +114,7 @@ module _ {M : Type 1} (𝓤 : URA M) (H : Heap 𝓤) (A : Atoms 𝓤) (W : Given
         move ! (4 ∷ 2 ∷ []) $ fjoin ! $ move ! (4 ∷ 0 ∷ []) $ fjoin ! $ move ! (4 ∷ []) $ fsplit ! $ keep ! (3 ∷ 2 ∷ 0 ∷ 4 ∷ []) $ by ! exits))))))))
 
 -- the place fits: the slice takes fewer than 2 ^ 63 bytes
-fits-at : (n i : ℕ) → n * 24 < 2 ^ 63 → i < n → i * 24 < 2 ^ 64
+fits-at : (n i : ℕ) → n * bytes < 2 ^ 63 → i < n → i * bytes < 2 ^ 64
 fits-at n i h l = omega arith
 
 module _ {M : Type 1} (𝓤 : URA M) (H : Heap 𝓤) (A : Atoms 𝓤) (W : Given 𝓤 H A) (mem : Memory → SProp 𝓤) (run : Routine → Fun 𝓤) where

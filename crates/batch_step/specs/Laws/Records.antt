@@ -5,16 +5,14 @@
 --     insert-word, remove-word, cleanup-word       a refusal's word fits
 use mathlib.Core.Path.{_≡_, refl, ap, sym, _∙_, subst, subst₂}
 use mathlib.Core.List.{List, []}
-use mathlib.Core.Bool.{Bool, _||_}
+use mathlib.Core.Logic.{⊎-elim}
+use mathlib.Core.Bool.{Bool}
 use Prim.Native.Nat.{ℕ, _≤_}
 use native.Mathlib.Omega.{arith}
 use lib.IntN.{ℤ}
-use lib.Dec.{eqb, ltb}
 use lib.ListN.{length, replicate, set}
 use Rattle.arithmetic.specs.Laws.Tests.{byBool}
 use Rattle.geometry.specs.declared.aabb.AABB.{AABB}
-use Rattle.geometry.specs.Rectangles.{inverted, farOut}
-use Rattle.geometry.specs.Settings.{rootOf, contains}
 use Rattle.model.specs.declared.Dot.{Dot}
 use Rattle.model.specs.declared.Record.{Record}
 use Rattle.model.specs.declared.State.{State}
@@ -24,14 +22,13 @@ use Rattle.model.specs.declared.answers.RemoveAnswer.{RemoveAnswer}
 use Rattle.model.specs.declared.answers.RemoveAnswer.the-variants as remove
 use Rattle.model.specs.declared.answers.CleanupAnswer.{CleanupAnswer}
 use Rattle.model.specs.declared.answers.CleanupAnswer.the-variants as cleanup
-use Rattle.model.specs.Trees.{size}
-use Rattle.model.specs.Shapes.{Shape, foundBy, splitsNeeded}
+use Rattle.model.specs.Shapes.{Shape, Valid, foundBy}
 use Rattle.model.specs.Layout.{World, world, cleared, layout, Holds, changedState}
 use Rattle.model.specs.Calls.{Reply, refused, tooMany, answered, Verdict, refuse, overflow, accept, exit, refusal, carriedOut}
 use Rattle.model.specs.Calls.{Recorded, recorded, refusedWord, yesNo, insertRule, removeRule, cleanupRule, carryOut}
 use Rattle.model.specs.Answers.{insertReply, insertState, removeReply, removeState, cleanupReply, cleanupState}
 use Rattle.model.specs.Laws.Layout.{holds-settings}
-use Rattle.model.specs.Laws.Calls.{world-of, reply-of}
+use Rattle.model.specs.Laws.Calls.{insert-cases, world-of, reply-of}
 use Rattle.model.specs.Laws.Batches.{record-valid, record-settings, insert-record, remove-record, cleanup-record, other-record}
 use Rattle.tree.specs.Operations.{IsTree, CarriedOut}
 use Rattle.tree_cleanup.specs.Answers.{CleanedUp}
@@ -168,39 +165,25 @@ stepped r i {answers = answers} done =
 
 -- ---- refusals
 
-insert-small : (dot : Dot) (w : World) (x : Shape) → refusal (carriedOut w [] (insertRule dot x) .reply) ≤ 255
-unfolding insertRule
-insert-small dot w x =
-    let r = dot .rect in
-    byBool (inverted r || farOut r)
-    (λ e₄. rw e₄ (omega arith))
-    (λ e₄.
-    byBool (contains (rootOf (x .settings)) r)
-    (λ e₅.
-    byBool (eqb (size (x .tree)) (x .places))
-    (λ e₆. rw (e₄, e₅, e₆) (omega arith))
-    (λ e₆.
-    byBool (ltb (length (x .freeGroups)) (splitsNeeded dot x))
-    (λ e₇. rw (e₄, e₅, e₆, e₇) (omega arith))
-    (λ e₇. rw (e₄, e₅, e₆, e₇) (omega arith))))
-    (λ e₅. rw (e₄, e₅) (omega arith)))
+insert-small : (dot : Dot) (w : World) (x : Shape) → Valid x → refusal (carriedOut w [] (insertRule dot x) .reply) ≤ 255
+insert-small dot w x v = ⊎-elim (λ k. rw (k .1) (k .3)) (λ g. rw (g .3) (omega arith)) (insert-cases dot x v)
 
-remove-small : (id : ℕ) (r : AABB) (w : World) (x : Shape) → refusal (carriedOut w [] (removeRule id r x) .reply) ≤ 255
+remove-small : (id : ℕ) (r : AABB) (w : World) (x : Shape) → Valid x → refusal (carriedOut w [] (removeRule id r x) .reply) ≤ 255
 unfolding removeRule
-remove-small id r w x = byBool (foundBy id r x) (λ e. rw e (omega arith)) (λ e. rw e (omega arith))
+remove-small id r w x v = byBool (foundBy id r x) (λ e. rw e (omega arith)) (λ e. rw e (omega arith))
 
-cleanup-small : (w : World) (x : Shape) → refusal (carriedOut w [] (cleanupRule x) .reply) ≤ 255
+cleanup-small : (w : World) (x : Shape) → Valid x → refusal (carriedOut w [] (cleanupRule x) .reply) ≤ 255
 unfolding cleanupRule
-cleanup-small w x = omega arith
+cleanup-small w x v = omega arith
 
 -- a refusal's word fits where the rule's refusals do
-by-small : {A : Type 0} (rule : Shape → Verdict ℕ A) → ((w : World) (x : Shape) → refusal (carriedOut w [] (rule x) .reply) ≤ 255)
+by-small : {A : Type 0} (rule : Shape → Verdict ℕ A) → ((w : World) (x : Shape) → Valid x → refusal (carriedOut w [] (rule x) .reply) ≤ 255)
     → {s : State} {nodes dots : List ℕ} {rects : List ℤ} {s′ : State} {nodes′ dots′ : List ℕ} {rects′ : List ℤ} {reply : Reply A}
     → IsTree s nodes dots rects → CarriedOut rule s nodes dots rects s′ nodes′ dots′ rects′ reply → (k : ℕ) → reply ≡ refused k → k ≤ 255
 by-small rule small {s} {nodes} {dots} {rects} t done k e =
     let w = world s nodes dots rects (t .marks) in
     let told = ap refusal (sym e ∙ reply-of (done (t .marks) (t .shape) (t .holds))) in
-    omega (arith, told, small w (t .shape))
+    omega (arith, told, small w (t .shape) (t .holds .valid))
 
 module _ {s : State} {nodes dots : List ℕ} {rects : List ℤ} (t : IsTree s nodes dots rects) {nodes′ dots′ : List ℕ} {rects′ : List ℤ} {k : ℕ} where
   pub insert-word : (dot : Dot) (a : InsertAnswer) → CarriedOut (insertRule dot) s nodes dots rects (insertState s a) nodes′ dots′ rects′ (insertReply a)

@@ -2,7 +2,7 @@
 --     insert-refused, insert-answered; remove-refused, remove-answered; cleanup-refused, cleanup-answered
 --     query-refused, query-answered; all-refused, all-answered; leaves-refused, leaves-answered
 --     references-refused, references-counted
-use mathlib.Core.Path.{_≡_, refl, _∙_, subst}
+use mathlib.Core.Path.{_≡_, ap, _∙_, subst}
 use mathlib.Core.List.{List, []}
 use mathlib.Core.Bool.{Bool}
 use Prim.Native.Nat.{ℕ}
@@ -11,9 +11,11 @@ use lib.ListN.{length}
 use Rattle.geometry.specs.declared.aabb.AABB.{AABB}
 use Rattle.geometry.specs.Settings.{rootRect}
 use Rattle.model.specs.declared.Dot.{Dot}
+use Rattle.model.specs.declared.Window.{Window}
 use Rattle.model.specs.declared.State.{State}
 use Rattle.model.specs.declared.answers.Found.{Found}
 use Rattle.model.specs.declared.answers.CleanupAnswer.{CleanupAnswer}
+use Rattle.model.specs.Dots.{ofAllInks}
 use Rattle.model.specs.Shapes.{references}
 use Rattle.model.specs.Layout.{world, cleared}
 use Rattle.model.specs.Answers.{cleanupReply, cleanupState}
@@ -63,7 +65,7 @@ module _ {s : State} {nodes dots : List ℕ} {rects : List ℤ} {marks marks′ 
 
   -- ---- the calls that read it
 
-  module _ (q : AABB) (row : List ℕ) where
+  module _ (q : Window) (row : List ℕ) where
     pub query-refused : (refusal ≡ 0 → ⊥) → Query (world s nodes dots rects marks) q row (world s nodes dots rects marks′) row (refused refusal)
     unfolding Query
     query-refused ne = call-refused c (queryRule q (length row)) row ne
@@ -75,14 +77,15 @@ module _ {s : State} {nodes dots : List ℕ} {rects : List ℤ} {marks marks′ 
 
   module _ (row : List ℕ) where
     pub all-refused : (refusal ≡ 0 → ⊥) → All (world s nodes dots rects marks) row (world s nodes dots rects marks′) row (refused refusal)
-    all-refused ne = all-query _ _ _ _ _ .1 (query-refused (rootRect (s .settings)) row ne)
+    all-refused ne = all-query _ _ _ _ _ .1 (query-refused (ofAllInks (rootRect (s .settings))) row ne)
 
-    pub all-answered : refusal ≡ 0 → {q : AABB} → q ≡ rootRect (s .settings) → (row′ : List ℕ) (reply : Reply Found)
+    pub all-answered : refusal ≡ 0 → {r : AABB} {q : Window} → r ≡ rootRect (s .settings) → q ≡ ofAllInks r → (row′ : List ℕ) (reply : Reply Found)
         → Queried s q nodes dots rects row row′ reply
         → All (world s nodes dots rects marks) row (world s nodes dots rects marks′) row′ reply
-    all-answered z e row′ reply done =
+    all-answered z e f row′ reply done =
         all-query _ _ _ _ _ .1
-        (query-answered (rootRect (s .settings)) row z row′ reply (subst (λ (q : AABB). Queried s q nodes dots rects row row′ reply) e done))
+        (query-answered (ofAllInks (rootRect (s .settings))) row z row′ reply
+        (subst (λ (q : Window). Queried s q nodes dots rects row row′ reply) (f ∙ ap ofAllInks e) done))
 
   module _ (row : List ℤ) where
     pub leaves-refused : (refusal ≡ 0 → ⊥) → Leaves (world s nodes dots rects marks) row (world s nodes dots rects marks′) row (refused refusal)

@@ -2,7 +2,7 @@
 use mathlib.Core.Path.{_≡_, refl, sym, _∙_}
 use mathlib.Core.List.{List}
 use mathlib.Core.Bool.{Bool, true, false, not}
-use Prim.Native.Nat.{ℕ, _/_}
+use Prim.Native.Nat.{ℕ}
 use lib.IntN.{ℤ}
 use lib.ListN.{length}
 use borrow.Author.Tests.{not-true, not-false}
@@ -11,7 +11,7 @@ use Rattle.geometry.specs.declared.settings.Settings.{Settings}
 use Rattle.geometry.specs.Settings.{inRange}
 use Rattle.model.specs.declared.State.{State}
 use Rattle.model.specs.Shapes.{fresh}
-use Rattle.model.specs.Layout.{world, layout, lengthsRight}
+use Rattle.model.specs.Layout.{world, groupsIn, placesIn, layout, lengthsRight}
 use Rattle.model.specs.Calls.{Make, refused, answered}
 use Rattle.memory.specs.Lengths.{lengthsFit}
 use Rattle.memory.specs.Laws.Lengths.{lengths-same}
@@ -41,7 +41,7 @@ module _ (s : Settings) (nodes dots : List ℕ) (rects : List ℤ) (marks : List
         record { badLength = λ k. true-false (sym lengths ∙ k); badSettings = λ _ _. (refl, refl); made = λ _ k. true-false (sym k ∙ out) }
 
     pub make-made : not accepts ≡ false → {state : State} {nodes′ dots′ : List ℕ} {rects′ : List ℤ} {marks′ : List ℕ}
-        → world state nodes′ dots′ rects′ marks′ ≡ layout (fresh s (length nodes / 10) (length dots / 2))
+        → world state nodes′ dots′ rects′ marks′ ≡ layout (fresh s (groupsIn (length nodes)) (placesIn (length dots)))
         → (before : State) → Make (world before nodes dots rects marks) s (world state nodes′ dots′ rects′ marks′) (answered tt)
     make-made n done before =
         let lengths = sym (right before) ∙ not-false fits l in

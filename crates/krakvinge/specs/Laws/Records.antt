@@ -21,26 +21,26 @@ use Rattle.model.specs.Calls.{refused, answered}
 use Rattle.batch_step.specs.declared.Batched.{Batched}
 use Rattle.batch_step.specs.Steps.{Begun, Stepped}
 use Rattle.batch.specs.Answers.{noRecord, batchReply}
-use Rattle.krakvinge.specs.Records.{recordIn, recordsIn, batchFits}
+use Rattle.krakvinge.specs.Records.{recordWords, recordIn, recordsIn, batchFits}
 use Rattle.krakvinge.specs.Laws.Rows.{fit}
 
 pub batch-ten : (state records : List ℕ) {b : Bool} → b ≡ batchFits state records → not b ≡ false → length state ≡ 10
 unfolding batchFits
-batch-ten state records test n = eqb-true _ _ (and-t (eqb (length state) 10) (eqb (length records % 6) 0) (fit test n) .0)
+batch-ten state records test n = eqb-true _ _ (and-t (eqb (length state) 10) (eqb (length records % recordWords) 0) (fit test n) .0)
 
-pub records-length : (row : List ℕ) → length (recordsIn row) ≡ length row / 6
+pub records-length : (row : List ℕ) → length (recordsIn row) ≡ length row / recordWords
 unfolding recordsIn
-records-length row = omega (arith, length-joinBelow (length row / 6) 1 (λ i. recordIn row i ∷ []) (λ i. refl))
+records-length row = omega (arith, length-joinBelow (length row / recordWords) 1 (λ i. recordIn row i ∷ []) (λ i. refl))
 
-records-at : (row : List ℕ) (i : ℕ) → i < length row / 6 → getD (recordsIn row) i noRecord ≡ recordIn row i
+records-at : (row : List ℕ) (i : ℕ) → i < length row / recordWords → getD (recordsIn row) i noRecord ≡ recordIn row i
 unfolding recordsIn
 records-at row i l =
     let at : 1 * i + 0 ≡ i = omega arith in
-    subst (λ (k : ℕ). getD (joinBelow (length row / 6) (λ j. recordIn row j ∷ [])) k noRecord ≡ recordIn row i) at
-    (getD-joinBelow 1 (length row / 6) (λ j. recordIn row j ∷ []) (λ j. refl) i 0 noRecord l (omega arith))
+    subst (λ (k : ℕ). getD (joinBelow (length row / recordWords) (λ j. recordIn row j ∷ [])) k noRecord ≡ recordIn row i) at
+    (getD-joinBelow 1 (length row / recordWords) (λ j. recordIn row j ∷ []) (λ j. refl) i 0 noRecord l (omega arith))
 
 pub begun-records : (row : List ℕ) {words : ℕ} {s : State} {nodes dots : List ℕ} {rects : List ℤ} {marks : List ℕ} {b : Batched} {marks′ : List ℕ}
-    → Begun (length row / 6) words s nodes dots rects marks b marks′ → Begun (length (recordsIn row)) words s nodes dots rects marks b marks′
+    → Begun (length row / recordWords) words s nodes dots rects marks b marks′ → Begun (length (recordsIn row)) words s nodes dots rects marks b marks′
 begun-records row {words} {s} {nodes} {dots} {rects} {marks} {b} {marks′} e =
     subst (λ (n : ℕ). Begun n words s nodes dots rects marks b marks′) (sym (records-length row)) e
 

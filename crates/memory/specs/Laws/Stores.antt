@@ -1,8 +1,8 @@
 -- What is read after a store: one number's word is changed, every other is kept.
 --     changed-by   a function that differs at one number
---     first-set, count-set, next-set, id-set, rect-set     the word that is stored
---     next-id, id-next     the word beside it
---     node-length, next-length, id-length, rect-length     rows keep their lengths
+--     first-set, count-set, next-set, rect-set, dot-set    what is stored
+--     next-dot, dot-next   what stands beside it
+--     node-length, next-length, dot-length, rect-length    rows keep their lengths
 use mathlib.Core.Path.{_≡_, ap, sym, _∙_, fun-ext}
 use mathlib.Core.Logic.{_≢_}
 use mathlib.Core.List.{List}
@@ -13,11 +13,12 @@ use lib.IntN.{ℤ, pos}
 use lib.ListN.{length, getD, set, length-set}
 use lib.Seq.{getD-set-same, getD-set-other}
 use Rattle.geometry.specs.declared.aabb.AABB.{AABB}
+use Rattle.model.specs.declared.Dot.{Dot}
 use Rattle.model.specs.Sums.{changed}
 use Rattle.model.specs.Laws.Sums.{changed-same, changed-other, byDec}
-use Rattle.model.specs.Memory.{firstAt, countAt, idAt, nextAt, rectAt}
+use Rattle.model.specs.Memory.{firstAt, countAt, idAt, nextAt, inkAt, rectAt, dotAt}
 use Rattle.memory.specs.declared.node.Node.{Node}
-use Rattle.memory.specs.Rows.{HasNode, HasPlace, HasRect, setNodeAt, setNextAt, setIdAt, setRectAt}
+use Rattle.memory.specs.Rows.{HasNode, HasPlace, HasRect, setNodeAt, setNextAt, setDotAt, setRectAt}
 
 pub changed-by : {A : Type 0} (f g : ℕ → A) (a : ℕ) (v : A) → g a ≡ v → ((k : ℕ) → k ≢ a → g k ≡ f k) → g ≡ changed f a v
 changed-by f g a v same other =
@@ -57,30 +58,42 @@ module _ (l : List ℕ) (p v : ℕ) where
   pub next-set : HasPlace l p → nextAt (setNextAt l p v) ≡ changed (nextAt l) p v
   unfolding nextAt setNextAt
   next-set h =
-      changed-by (λ k. getD l (2 * k + 1) 0) (λ k. getD (set l (2 * p + 1) v) (2 * k + 1) 0) p v
-      (getD-set-same l (2 * p + 1) v 0 h) (λ k ne. getD-set-other l (2 * p + 1) (2 * k + 1) v 0 (λ e. ne (omega arith)))
-
-  pub id-set : HasPlace l p → idAt (setIdAt l p v) ≡ changed (idAt l) p v
-  unfolding idAt setIdAt
-  id-set h =
-      changed-by (λ k. getD l (2 * k + 0) 0) (λ k. getD (set l (2 * p + 0) v) (2 * k + 0) 0) p v
-      (getD-set-same l (2 * p + 0) v 0 (omega arith)) (λ k ne. getD-set-other l (2 * p + 0) (2 * k + 0) v 0 (λ e. ne (omega arith)))
-
-  pub id-next : idAt (setNextAt l p v) ≡ idAt l
-  unfolding idAt setNextAt
-  id-next = fun-ext (λ k. getD-set-other l (2 * p + 1) (2 * k + 0) v 0 (λ e. omega arith))
-
-  pub next-id : nextAt (setIdAt l p v) ≡ nextAt l
-  unfolding nextAt setIdAt
-  next-id = fun-ext (λ k. getD-set-other l (2 * p + 0) (2 * k + 1) v 0 (λ e. omega arith))
+      changed-by (λ k. getD l (3 * k + 1) 0) (λ k. getD (set l (3 * p + 1) v) (3 * k + 1) 0) p v
+      (getD-set-same l (3 * p + 1) v 0 (omega arith)) (λ k ne. getD-set-other l (3 * p + 1) (3 * k + 1) v 0 (λ e. ne (omega arith)))
 
   pub next-length : length (setNextAt l p v) ≡ length l
   unfolding setNextAt
-  next-length = length-set l (2 * p + 1) v
+  next-length = length-set l (3 * p + 1) v
 
-  pub id-length : length (setIdAt l p v) ≡ length l
-  unfolding setIdAt
-  id-length = length-set l (2 * p + 0) v
+module _ (l : List ℕ) (p : ℕ) (d : Dot) where
+  pub next-dot : nextAt (setDotAt l p d) ≡ nextAt l
+  unfolding nextAt setDotAt
+  next-dot =
+      let m = set l (3 * p + 0) (d .id) in
+      fun-ext (λ k.
+      getD-set-other m (3 * p + 2) (3 * k + 1) (d .ink) 0 (λ e. omega arith) ∙ getD-set-other l (3 * p + 0) (3 * k + 1) (d .id) 0 (λ e. omega arith))
+
+  pub dot-length : length (setDotAt l p d) ≡ length l
+  unfolding setDotAt
+  dot-length = simp length-set
+
+  id-set : HasPlace l p → idAt (setDotAt l p d) ≡ changed (idAt l) p (d .id)
+  unfolding idAt setDotAt
+  id-set h =
+      let m = set l (3 * p + 0) (d .id) in
+      changed-by (λ k. getD l (3 * k + 0) 0) (λ k. getD (set m (3 * p + 2) (d .ink)) (3 * k + 0) 0) p (d .id)
+      (getD-set-other m (3 * p + 2) (3 * p + 0) (d .ink) 0 (λ e. omega arith) ∙ getD-set-same l (3 * p + 0) (d .id) 0 (omega arith))
+      (λ k ne. getD-set-other m (3 * p + 2) (3 * k + 0) (d .ink) 0 (λ e. omega arith) ∙ getD-set-other l (3 * p + 0) (3 * k + 0) (d .id) 0
+      (λ e. ne (omega arith)))
+
+  ink-set : HasPlace l p → inkAt (setDotAt l p d) ≡ changed (inkAt l) p (d .ink)
+  unfolding inkAt setDotAt
+  ink-set h =
+      let m = set l (3 * p + 0) (d .id) in
+      changed-by (λ k. getD l (3 * k + 2) 0) (λ k. getD (set m (3 * p + 2) (d .ink)) (3 * k + 2) 0) p (d .ink)
+      (getD-set-same m (3 * p + 2) (d .ink) 0 (omega (arith, length-set l (3 * p + 0) (d .id))))
+      (λ k ne. getD-set-other m (3 * p + 2) (3 * k + 2) (d .ink) 0 (λ e. ne (omega arith)) ∙ getD-set-other l (3 * p + 0) (3 * k + 2) (d .id) 0
+      (λ e. omega arith))
 
 -- ---- rectangles
 
@@ -121,3 +134,35 @@ module _ (l : List ℤ) (p : ℕ) (r : AABB) (h : HasRect l p) where
 pub rect-length : (l : List ℤ) (p : ℕ) (r : AABB) → length (setRectAt l p r) ≡ length l
 unfolding setRectAt
 rect-length l p r = simp length-set
+
+-- ---- dots, whose words stand in two rows
+
+module _ (dots : List ℕ) (rects : List ℤ) (p : ℕ) where
+  -- a next is no word of a dot
+  pub dot-next : (v : ℕ) → dotAt (setNextAt dots p v) rects ≡ dotAt dots rects
+  unfolding idAt inkAt setNextAt
+  dot-next v =
+      fun-ext (λ k.
+      let id = getD-set-other dots (3 * p + 1) (3 * k + 0) v 0 (λ e. omega arith) in
+      let ink = getD-set-other dots (3 * p + 1) (3 * k + 2) v 0 (λ e. omega arith) in
+      λ i. record { id = id i; rect = rectAt rects k; ink = ink i })
+
+  pub dot-set : (d : Dot) → HasPlace dots p → HasRect rects p → dotAt (setDotAt dots p d) (setRectAt rects p (d .rect)) ≡ changed (dotAt dots rects) p d
+  dot-set d h hr =
+      let id = id-set dots p d h in
+      let ink = ink-set dots p d h in
+      let rect = rect-set rects p (d .rect) hr in
+      let stored : (k : ℕ) → dotAt (setDotAt dots p d) (setRectAt rects p (d .rect)) k
+      ≡ record { id = changed (idAt dots) p (d .id) k; rect = changed (rectAt rects) p (d .rect) k; ink = changed (inkAt dots) p (d .ink) k } =
+      λ k i. record { id = id i k; rect = rect i k; ink = ink i k } in
+      changed-by (dotAt dots rects) (dotAt (setDotAt dots p d) (setRectAt rects p (d .rect))) p d
+      (stored p ∙ (λ i. record {
+        id = changed-same (idAt dots) p (d .id) i;
+        rect = changed-same (rectAt rects) p (d .rect) i;
+        ink = changed-same (inkAt dots) p (d .ink) i;
+      }))
+      (λ k ne. stored k ∙ (λ i. record {
+        id = changed-other (idAt dots) p (d .id) k ne i;
+        rect = changed-other (rectAt rects) p (d .rect) k ne i;
+        ink = changed-other (inkAt dots) p (d .ink) k ne i;
+      }))

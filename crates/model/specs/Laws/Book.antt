@@ -1,6 +1,6 @@
 -- Laws of the book: how often a dot stands in it, as sums of weights.
 --     without-sum, but-tree        what a remove that says yes does to every weight
---     count-live, live-count, dead-count, has-dot, has-hit, hit-has    from counts to `Live` and `Has`, and back
+--     has-all, has-sum, count-live, live-count, dead-count, has-dot, has-hit, hit-has    from counts to `Live` and `Has`, and back
 --     Told, book-told      the book is told arguments, accepted and yes alone (§12.4): nothing else of an event makes a difference
 use mathlib.Core.Path.{_≡_, refl, ap, sym, _∙_}
 use mathlib.Core.Logic.{inl, inr, ⊎-elim}
@@ -12,9 +12,10 @@ use native.Mathlib.Omega.{arith}
 use lib.Dec.{eqb}
 use borrow.Author.Tests.{eqb-true}
 use Rattle.arithmetic.specs.Laws.Tests.{byBool}
-use Rattle.geometry.specs.declared.aabb.AABB.{AABB}
 use Rattle.model.specs.declared.Dot.{Dot}
+use Rattle.model.specs.declared.Window.{Window}
 use Rattle.model.specs.Sums.{indicator, sumOver}
+use Rattle.model.specs.Lists.{All}
 use Rattle.model.specs.Laws.Sums.{indicator-same, indicator-other, byDec}
 use Rattle.model.specs.Laws.Lists.{filter-le, sum-filter}
 use Rattle.model.specs.Dots.{isHit}
@@ -52,14 +53,18 @@ but-tree h k t z = sym (sumDots-dots (onDot (but k h)) t) ∙ but-list h k (dots
 -- ---- counts
 
 -- a dot of the book is counted by any weight that is 1 at it
-has-sum : (h : Dot → ℕ) (d : Dot) (b : List Dot) → h d ≡ 1 → Has d b → 1 ≤ sumOver h b
+pub has-sum : (h : Dot → ℕ) (d : Dot) (b : List Dot) → h d ≡ 1 → Has d b → 1 ≤ sumOver h b
 has-sum h d [] one has = absurd has
 has-sum h d (e ∷ es) one has = ⊎-elim (λ p. omega (arith, one, ap h p)) (λ m. omega (arith, has-sum h d es one m)) has
+
+pub has-all : (P : Dot → Type 0) (b : List Dot) → ((d : Dot) → Has d b → P d) → All P b
+has-all P [] f = tt
+has-all P (d ∷ ds) f = (f d (inl refl), has-all P ds (λ e has. f e (inr has)))
 
 pub has-dot : (d : Dot) (b : List Dot) → Has d b → 1 ≤ sumOver (dotIs (d .id) (d .rect)) b
 has-dot d b = has-sum (dotIs (d .id) (d .rect)) d b (rw (sameRect-same (d .rect)) (indicator-same (d .id)))
 
-pub has-hit : (q : AABB) (d : Dot) (b : List Dot) → Has d b → isHit q d ≡ true → 1 ≤ sumOver (idIs (d .id)) (meeting q b)
+pub has-hit : (q : Window) (d : Dot) (b : List Dot) → Has d b → isHit q d ≡ true → 1 ≤ sumOver (idIs (d .id)) (meeting q b)
 has-hit q d b has hit =
     omega (arith, sum-filter (idIs (d .id)) (isHit q) b, has-sum (λ e. cond (isHit q e) (idIs (d .id) e) 0) d b (rw hit (indicator-same (d .id))) has)
 
@@ -76,7 +81,7 @@ live-count k b live = has-sum (idIs k) (live .0) b (ap (indicator k) (live .2) �
 pub dead-count : (k : ℕ) (b : List Dot) → ¬ Live k b → sumOver (idIs k) b ≡ 0
 dead-count k b n = byDec (decLe 1 (sumOver (idIs k) b)) (λ h. absurd (n (count-live k b h))) (λ h. omega arith)
 
-pub hit-has : (q : AABB) (k : ℕ) (b : List Dot) → 1 ≤ sumOver (idIs k) (meeting q b) → (d : Dot) × Has d b × (d .id ≡ k) × (isHit q d ≡ true)
+pub hit-has : (q : Window) (k : ℕ) (b : List Dot) → 1 ≤ sumOver (idIs k) (meeting q b) → (d : Dot) × Has d b × (d .id ≡ k) × (isHit q d ≡ true)
 hit-has q k [] c = absurd (omega arith)
 hit-has q k (d ∷ ds) c =
     byBool (isHit q d)
@@ -86,7 +91,7 @@ hit-has q k (d ∷ ds) c =
     (λ ne. let l = hit-has q k ds (omega (arith, rw t at c, indicator-other k (d .id) ne)) in (l .0, inr (l .1), l .2, l .3)))
     (λ t. let l = hit-has q k ds (rw t at c) in (l .0, inr (l .1), l .2, l .3))
 
-pub meeting-le : (q : AABB) (k : ℕ) (b : List Dot) → sumOver (idIs k) (meeting q b) ≤ sumOver (idIs k) b
+pub meeting-le : (q : Window) (k : ℕ) (b : List Dot) → sumOver (idIs k) (meeting q b) ≤ sumOver (idIs k) b
 meeting-le q k b = filter-le (idIs k) (isHit q) b
 
 -- ---- what the book is told

@@ -16,7 +16,8 @@ use Rattle.arithmetic.specs.Laws.Tests.{byBool, true-false}
 use Rattle.geometry.specs.Rectangles.{inverted, farOut}
 use Rattle.geometry.specs.Settings.{rootOf, contains, acceptable}
 use Rattle.model.specs.declared.Dot.{Dot}
-use Rattle.model.specs.Dots.{acceptableDot}
+use Rattle.model.specs.declared.Window.{Window}
+use Rattle.model.specs.Dots.{goodInk, acceptableDot}
 use Rattle.model.specs.Trees.{size}
 use Rattle.model.specs.Shapes.{Shape, Valid, inserted, splitsMade, splitsNeeded, removed, foundBy, cleaned, cleans, listed, opensFor}
 use Rattle.model.specs.Layout.{World, Holds}
@@ -34,26 +35,30 @@ Goes dot x =
     (acceptableDot (x .settings) dot ≡ true) × (1 ≤ length (x .freePlaces)) × (splitsNeeded dot x ≤ length (x .freeGroups))
     × (insertRule dot x ≡ accept (inserted dot x) [] (splitsMade dot x))
 
-pub insert-cases : (dot : Dot) (x : Shape) → Valid x → ((k : ℕ) × (insertRule dot x ≡ refuse k)) ⊎ Goes dot x
+-- the number of a refusal comes after 3, and fits a byte
+pub insert-cases : (dot : Dot) (x : Shape) → Valid x → ((k : ℕ) × (insertRule dot x ≡ refuse k) × (4 ≤ k) × (k ≤ 255)) ⊎ Goes dot x
 unfolding insertRule acceptable acceptableDot
 insert-cases dot x v =
     let r = dot .rect in
     byBool (inverted r || farOut r)
-    (λ e₄. inl (4, rw e₄ refl))
+    (λ e₄. inl (4, rw e₄ refl, omega arith, omega arith))
     (λ e₄.
+    byBool (goodInk dot)
+    (λ e₁₀.
     byBool (contains (rootOf (x .settings)) r)
     (λ e₅.
     byBool (eqb (size (x .tree)) (x .places))
-    (λ e₆. inl (6, rw (e₄, e₅, e₆) refl))
+    (λ e₆. inl (6, rw (e₄, e₁₀, e₅, e₆) refl, omega arith, omega arith))
     (λ e₆.
     byBool (ltb (length (x .freeGroups)) (splitsNeeded dot x))
-    (λ e₇. inl (7, rw (e₄, e₅, e₆, e₇) refl))
+    (λ e₇. inl (7, rw (e₄, e₁₀, e₅, e₆, e₇) refl, omega arith, omega arith))
     (λ e₇.
     let room : 1 ≤ length (x .freePlaces) =
     byDec (decLe 1 (length (x .freePlaces))) (λ h. h)
     (λ h. true-false (sym (eq-eqb (size (x .tree)) (x .places) (omega (arith, live-and-free x v))) ∙ e₆)) in
-    inr (rw (e₄, e₅) refl, room, ltb-false (length (x .freeGroups)) (splitsNeeded dot x) e₇, rw (e₄, e₅, e₆, e₇) refl))))
-    (λ e₅. inl (5, rw (e₄, e₅) refl)))
+    inr (rw (e₄, e₁₀, e₅) refl, room, ltb-false (length (x .freeGroups)) (splitsNeeded dot x) e₇, rw (e₄, e₁₀, e₅, e₆, e₇) refl))))
+    (λ e₅. inl (5, rw (e₄, e₁₀, e₅) refl, omega arith, omega arith)))
+    (λ e₁₀. inl (10, rw (e₄, e₁₀) refl, omega arith, omega arith)))
 
 module _ {B A : Type 0} where
   pub world-of : {e f : Exit B A} → e ≡ f → e .world ≡ f .world
@@ -111,7 +116,7 @@ cleanup-done w v reply call x h =
     let y = cleaned x in
     (subst (λ (u : World). Holds u y) (sym (world-of p)) (layout-holds y (cleaned-valid x (h .valid))), reply-of p)
 
-module _ (w : World) (q : AABB) (row : List ℕ) (v : World) (row′ : List ℕ) (reply : Reply Found) (call : Query w q row v row′ reply)
+module _ (w : World) (q : Window) (row : List ℕ) (v : World) (row′ : List ℕ) (reply : Reply Found) (call : Query w q row v row′ reply)
     (x : Shape) (h : Holds w x) where
   pub query-exit : exit v row′ reply ≡ carriedOut w row (queryRule q (length row) x)
   unfolding Query
@@ -126,10 +131,11 @@ module _ (w : World) (q : AABB) (row : List ℕ) (v : World) (row′ : List ℕ)
       (subst (λ (u : World). Holds u x) (sym (world-of p)) (cleared-holds w x h), reply-of p)
 
   pub query-done : ltb (length row) (length (listed q x)) ≡ false
-      → Holds v x × (reply ≡ answered (record { hits = length (listed q x); opened = opensFor q x })) × (row′ ≡ listed q x ++ drop (length (listed q x)) row)
+      → Holds v x × (reply ≡ answered (record { hits = length (listed q x); opened = opensFor (q .rect) x }))
+      × (row′ ≡ listed q x ++ drop (length (listed q x)) row)
   unfolding queryRule
   query-done e =
-      let a : Found = record { hits = length (listed q x); opened = opensFor q x } in
+      let a : Found = record { hits = length (listed q x); opened = opensFor (q .rect) x } in
       let z : queryRule q (length row) x ≡ accept x (listed q x) a = rw e refl in
       let p = query-exit ∙ ap (carriedOut w row) z in
       (subst (λ (u : World). Holds u x) (sym (world-of p)) (layout-holds x (h .valid)), reply-of p, row-of p)

@@ -3,6 +3,7 @@
 --     Inv, step-inv, run-inv       the invariant, kept by a call and by a list of calls
 --     quiet-run    what quiet calls keep, and what D cleanups among them bring about
 --     inv-promise, demand-3
+--     book-inks    the book's dots have inks from 0 to 15
 use mathlib.Core.Path.{_≡_, refl, ap, ap₂, sym, _∙_, subst}
 use mathlib.Core.Logic.{⊎-elim}
 use mathlib.Core.List.{List, [], _∷_, _++_}
@@ -21,10 +22,11 @@ use Rattle.model.specs.Laws.Sums.{indicator-same, indicator-other, indic
 use Rattle.model.specs.Lists.{count}
 use Rattle.arithmetic.specs.Laws.Tests.{byBool, true-false}
 use Rattle.model.specs.declared.Dot.{Dot}
-use Rattle.model.specs.Dots.{isHit}
+use Rattle.model.specs.declared.Window.{Window}
+use Rattle.model.specs.Dots.{goodInk, isHit}
 use Rattle.geometry.specs.Settings.{D}
 use Rattle.model.specs.Trees.{Placed, sumDots, size}
-use Rattle.model.specs.Laws.Trees.{dots, sumDots-dots}
+use Rattle.model.specs.Laws.Trees.{dots, allDots-dots, sumDots-dots}
 use Rattle.model.specs.Query.{hits}
 use Rattle.model.specs.Cleanup.{isZero, turned}
 use Rattle.model.specs.Remove.{removeSays, removeAt}
@@ -33,18 +35,18 @@ use Rattle.model.specs.Layout.{World, groupsOf, placesOf, Holds}
 use Rattle.model.specs.declared.answers.Found.{Found}
 use Rattle.model.specs.Calls.{Reply, refused, tooMany, answered, Make, Cleanup, Query}
 use Rattle.model.specs.Book.{Event, insert, remove, cleanup, query, Happens, Run, accepted, saidYes, without, entered, bookAfter}
-use Rattle.model.specs.Book.{book, Has, Live, Fine, DistinctFrom, Quiet, cleanups, meeting, Exactly, Promise, Demand3}
+use Rattle.model.specs.Book.{book, Has, Live, Fine, DistinctFrom, Distinct, Quiet, cleanups, meeting, Exactly, Promise, Demand3}
 use borrow.Author.Tests.{leb-true}
 use Rattle.model.specs.Laws.Query.{hits-filter, opened-le, Clean, branches-le}
 use Rattle.model.specs.Laws.Cleanup.{clean-sum, no-clean, clean-no, Tidy, tidy-suc, shallow-tidy, tidy-clean, tidy-zero, clean-tidy}
 use Rattle.model.specs.Laws.Insert.{insert-sum}
 use borrow.Author.Tests.{eq-eqb}
 use Rattle.model.specs.Laws.Remove.{found-gone, found-live}
-use Rattle.model.specs.Laws.Shapes.{valid-height, shape-routed}
+use Rattle.model.specs.Laws.Shapes.{good-inks, valid-height, shape-routed}
 use Rattle.model.specs.Laws.Runs.{made-holds}
-use Rattle.model.specs.Laws.Book.{but, without-sum, without-le, but-tree, dead-count, has-dot, has-hit, hit-has, meeting-le}
+use Rattle.model.specs.Laws.Book.{but, without-sum, without-le, but-tree, dead-count, has-sum, has-dot, has-hit, hit-has, meeting-le}
 use Rattle.model.specs.Laws.Dots.{onDot, idIs, dotIs}
-use Rattle.model.specs.Laws.Lists.{sum-filter}
+use Rattle.model.specs.Laws.Lists.{all-map, sumOver-zero, sum-filter}
 use Rattle.model.specs.Laws.Calls.{insert-cases, insert-refused, insert-accepted, remove-no, remove-yes}
 use Rattle.model.specs.Laws.Calls.{cleanup-done, query-short, query-done, query-holds}
 
@@ -182,8 +184,8 @@ opensOf (refused k) = 0
 opensOf (tooMany n) = 0
 opensOf (answered a) = a .opened
 
--- every weight on ids sums to the same over the listed ids and over the live ones that intersect
-listed-sum : (s : Settings) (w : World) (b : List Dot) (I : Inv s w b) (q : AABB) (g : ℕ → ℕ)
+-- every weight on ids sums to the same over the listed ids and over the live ones that the query asks for
+listed-sum : (s : Settings) (w : World) (b : List Dot) (I : Inv s w b) (q : Window) (g : ℕ → ℕ)
     → sumOver g (listed q (I .x)) ≡ sumOver (λ d. g (d .id)) (meeting q b)
 unfolding listed
 listed-sum s w b I q g =
@@ -196,7 +198,7 @@ listed-sum s w b I q g =
     ∙ I .same (λ d. cond (isHit q d) (g (d .id)) 0)
     ∙ sym (sum-filter (λ d. g (d .id)) (isHit q) b)
 
-inv-exactly : (s : Settings) (w : World) (b : List Dot) (I : Inv s w b) (q : AABB) → Exactly q b (listed q (I .x))
+inv-exactly : (s : Settings) (w : World) (b : List Dot) (I : Inv s w b) (q : Window) → Exactly q b (listed q (I .x))
 inv-exactly s w b I q =
     let sum : (id : ℕ) → count id (listed q (I .x)) ≡ sumOver (idIs id) (meeting q b) = λ id. listed-sum s w b I q (indicator id) in
     record {
@@ -205,7 +207,7 @@ inv-exactly s w b I q =
       allThose = λ d h i. omega (arith, sum (d .id), has-hit q d b h i);
     }
 
-inv-lists : (s : Settings) (w : World) (b : List Dot) → Inv s w b → (q : AABB) (row row′ : List ℕ) (w′ : World) (reply : Reply Found)
+inv-lists : (s : Settings) (w : World) (b : List Dot) → Inv s w b → (q : Window) (row row′ : List ℕ) (w′ : World) (reply : Reply Found)
     → Query w q row w′ row′ reply
     → length (meeting q b) ≤ length row → (a : Found) × (reply ≡ answered a) × Exactly q b (take (a .hits) row′)
 inv-lists s w b I q row row′ w′ reply call long =
@@ -217,7 +219,7 @@ inv-lists s w b I q row row′ w′ reply call long =
     (λ e.
     let d = query-done w q row w′ row′ reply call x (I .holds) e in
     let front : take (length found) row′ ≡ found = ap (take (length found)) (d .2) ∙ take-append-seam found (drop (length found) row) in
-    (record { hits = length found; opened = opensFor q x }, d .1, subst (Exactly q b) (sym front) (inv-exactly s w b I q)))
+    (record { hits = length found; opened = opensFor (q .rect) x }, d .1, subst (Exactly q b) (sym front) (inv-exactly s w b I q)))
 
 -- after D cleanups no branch is left that holds no dot
 tidy-down : (n : ℕ) (x : Shape) → Tidy (suc n) (x .tree) → Tidy n (cleaned x .tree)
@@ -250,7 +252,7 @@ few s n q x v k t =
 
 inv-opens : (s : Settings) (w : World) (b : List Dot) → Inv s w b → (es fs : List Event) (v w′ : World)
     → Run w (es ++ cleanup (answered false) ∷ fs) v → Quiet es → Quiet fs
-    → (q : AABB) (row row′ : List ℕ) (a : Found) → Query v q row w′ row′ (answered a) → a .opened ≤ 1 + 5 * D s * length b
+    → (q : Window) (row row′ : List ℕ) (a : Found) → Query v q row w′ row′ (answered a) → a .opened ≤ 1 + 5 * D s * length b
 unfolding opensOf
 inv-opens s w b I es fs v w′ run qe qf q row row′ a call =
     let n = length b in
@@ -266,7 +268,7 @@ inv-opens s w b I es fs v w′ run qe qf q row row′ a call =
     λ x p. (kept-cleaned s n x (p .0), tidy-stay x (p .1)) in
     let after = quiet-run R (λ k x p. keep x p) keep 0 (r .2 .0) fs v (cleaned y) (r .2 .2) qf (done .0) (keep y (before .2, clean)) (omega arith) in
     let z = after .0 in
-    let small = few s n q z (after .1 .valid) (after .2 .0) (after .2 .1) in
+    let small = few s n (q .rect) z (after .1 .valid) (after .2 .0) (after .2 .1) in
     byBool (ltb (length row) (length (listed q z)))
     (λ e. never (query-short v q row w′ row′ (answered a) call z (after .1) e .1))
     (λ e. let d = query-done v q row w′ row′ (answered a) call z (after .1) e in omega (arith, small, ap opensOf (d .1)))
@@ -328,3 +330,20 @@ made-inv lent s start m =
 pub demand-3 : Demand3
 unfolding Demand3
 demand-3 lent s start m es w run d = inv-promise s w (book es) (run-inv s start [] es w (made-inv lent s start m) run d)
+
+-- ---- the book's inks
+
+-- 1 at a dot whose ink is none of the sixteen
+abbrev badInk : Dot → ℕ
+badInk d = cond (goodInk d) 0 1
+
+pub book-inks : (lent : World) (s : Settings) (start : World) → Make lent s start (answered tt)
+    → (es : List Event) (w : World) → Run start es w → Distinct es → (d : Dot) → Has d (book es) → goodInk d ≡ true
+book-inks lent s start m es w run distinct d has =
+    let I = run-inv s start [] es w (made-inv lent s start m) run distinct in
+    let x = I .x in
+    let good = all-map (λ e. goodInk (e .dot) ≡ true) (λ e. onDot badInk e ≡ 0) (λ e g. rw g refl) (dots (x .tree))
+    (allDots-dots (λ e. goodInk (e .dot) ≡ true) (x .tree) (good-inks x (I .holds .valid))) in
+    let none : sumOver badInk (book es) ≡ 0 =
+    sym (I .same badInk) ∙ sym (sumDots-dots (onDot badInk) (x .tree)) ∙ sumOver-zero (onDot badInk) (dots (x .tree)) good in
+    byBool (goodInk d) (λ e. e) (λ e. absurd (omega (arith, none, has-sum badInk d (book es) (rw e refl) has)))

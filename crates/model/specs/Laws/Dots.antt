@@ -1,29 +1,55 @@
 -- Laws of what the calls ask of a dot.
+--     dot-upright  an acceptable dot's rectangle passes refusal 4
+--     hit-apart, hit-by-ink        whether a query lists a dot, by the rectangles first
 --     hit-opens    a query opens the child that a dot which it lists goes to
 --     match-id, id-match   a remove takes just the dots of its id
 --     onDot        a weight on dots, of a dot with its place
 --     idIs, dotIs  1 at the dots of an id; 1 at those of an id and a rectangle
 --     sameRect-true, sameRect-same     the test of equal rectangles
-use mathlib.Core.Path.{_≡_, refl, sym}
-use mathlib.Core.Bool.{true, cond, _&&_}
+use mathlib.Core.Path.{_≡_, refl, sym, _∙_}
+use mathlib.Core.Bool.{Bool, true, false, not, cond, _&&_, _||_}
 use Prim.Native.Nat.{ℕ}
 use lib.IntN.{ℤ}
-use borrow.Author.Tests.{eqb-true, eq-eqb}
+use borrow.Author.Tests.{eqb-true, eq-eqb, not-true, not-false}
 use Rattle.arithmetic.specs.Ints.{eqZ}
 use Rattle.arithmetic.specs.Laws.Linear.{eq-t, t-eq, nat-eq, and-t}
+use Rattle.arithmetic.specs.Laws.Tests.{true-false}
 use Rattle.geometry.specs.declared.aabb.AABB.{AABB}
 use Rattle.geometry.specs.declared.node_data.NodeData.{NodeData}
-use Rattle.geometry.specs.Rectangles.{sameRect}
+use Rattle.geometry.specs.declared.settings.Settings.{Settings}
+use Rattle.geometry.specs.Rectangles.{intersects, sameRect, inverted, farOut}
+use Rattle.geometry.specs.Settings.{rootOf, contains, acceptable}
 use Rattle.geometry.specs.Cells.{route, opens}
 use Rattle.geometry.specs.Laws.Geometry.{prune}
 use Rattle.model.specs.declared.Dot.{Dot}
+use Rattle.model.specs.declared.Window.{Window}
 use Rattle.model.specs.Sums.{indicator}
-use Rattle.model.specs.Dots.{isHit, matches}
+use Rattle.model.specs.Dots.{goodInk, acceptableDot, shows, isHit, matches}
 use Rattle.model.specs.Trees.{Placed}
 
-pub hit-opens : (q : AABB) (n : NodeData) (d : Dot) → isHit q d ≡ true → opens q n (route n (d .rect)) ≡ true
+pub dot-upright : (s : Settings) (d : Dot) → acceptableDot s d ≡ true → (inverted (d .rect) ≡ false) × (farOut (d .rect) ≡ false)
+unfolding acceptable acceptableDot
+dot-upright s d e =
+    let r = d .rect in
+    let good = and-t (acceptable s r) (goodInk d) e .0 in
+    or-false (inverted r) (farOut r) (not-true (inverted r || farOut r) (and-t (not (inverted r || farOut r)) (contains (rootOf s) r) good .0))
+  where
+    or-false : (a b : Bool) → a || b ≡ false → (a ≡ false) × (b ≡ false)
+    or-false true b p = true-false p
+    or-false false b p = (refl, p)
+
+module _ (q : Window) (d : Dot) {b : Bool} (told : b ≡ intersects (q .rect) (d .rect)) where
+  pub hit-apart : not b ≡ true → false ≡ isHit q d
+  unfolding isHit
+  hit-apart n = rw (sym told ∙ not-true b n) refl
+
+  pub hit-by-ink : not b ≡ false → {v : Bool} → v ≡ shows q d → v ≡ isHit q d
+  unfolding isHit
+  hit-by-ink n e = rw (sym told ∙ not-false b n) e
+
+pub hit-opens : (q : Window) (n : NodeData) (d : Dot) → isHit q d ≡ true → opens (q .rect) n (route n (d .rect)) ≡ true
 unfolding isHit
-hit-opens q n d h = prune q n (d .rect) h
+hit-opens q n d h = prune (q .rect) n (d .rect) (and-t (intersects (q .rect) (d .rect)) (shows q d) h .0)
 
 pub match-id : (id : ℕ) (d : Dot) → matches id d ≡ true → d .id ≡ id
 unfolding matches

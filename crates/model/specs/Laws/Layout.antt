@@ -15,7 +15,7 @@ use Rattle.model.specs.Laws.Lists.{length-joinBelow}
 use Rattle.arithmetic.specs.Laws.Tests.{byBool}
 use Rattle.geometry.specs.Settings.{inRange}
 use Rattle.model.specs.Shapes.{Shape, Valid}
-use Rattle.model.specs.Layout.{World, groupsOf, placesOf, nodesRight, dotsRight, marksRight, lengthsRight, NodeEntry, PlaceEntry}
+use Rattle.model.specs.Layout.{dotsFor, World, groupsOf, placesOf, nodesRight, dotsRight, marksRight, lengthsRight, NodeEntry, PlaceEntry}
 use Rattle.model.specs.Layout.{nodeEntries, placeEntries, nodeWords, dotWords, placeRect, stateOf, layout, cleared, Holds}
 use Rattle.model.specs.Calls.{Verdict, Exit, carriedOut, Obeys}
 
@@ -25,9 +25,9 @@ pub two-node : (es : List NodeEntry) (k : ℕ) → length (nodeWords es k) ≡ 2
 two-node [] k = refl
 two-node (e ∷ es) k = byBool (eqb k (e .node)) (λ t. rw t refl) (λ t. rw t (two-node es k))
 
-pub two-dot : (es : List PlaceEntry) (k : ℕ) → length (dotWords es k) ≡ 2
-two-dot [] k = refl
-two-dot (e ∷ es) k = byBool (eqb k (e .place)) (λ t. rw t refl) (λ t. rw t (two-dot es k))
+pub three-dot : (es : List PlaceEntry) (k : ℕ) → length (dotWords es k) ≡ 3
+three-dot [] k = refl
+three-dot (e ∷ es) k = byBool (eqb k (e .place)) (λ t. rw t refl) (λ t. rw t (three-dot es k))
 
 pub four-rect : (es : List PlaceEntry) (k : ℕ) → length (placeRect es k) ≡ 4
 four-rect [] k = refl
@@ -36,7 +36,7 @@ four-rect (e ∷ es) k = byBool (eqb k (e .place)) (λ t. rw t refl) (λ t. rw t
 -- the four lengths of a layout
 pub record Lengths (x : Shape) (w : World) : Type 0 where
   pub nodes : length (w .nodes) ≡ 2 + 10 * x .groups
-  pub dots : length (w .dots) ≡ 2 * x .places
+  pub dots : length (w .dots) ≡ dotsFor (x .places)
   pub rects : length (w .rects) ≡ 4 * x .places
   pub marks : length (w .marks) ≡ x .places + x .groups
 
@@ -45,7 +45,7 @@ unfolding layout
 layout-lengths x =
     record {
       nodes = omega (arith, length-joinBelow (1 + 5 * x .groups) 2 (nodeWords (nodeEntries x)) (two-node (nodeEntries x)));
-      dots = omega (arith, length-joinBelow (x .places) 2 (dotWords (placeEntries x)) (two-dot (placeEntries x)));
+      dots = omega (arith, length-joinBelow (x .places) 3 (dotWords (placeEntries x)) (three-dot (placeEntries x)));
       rects = omega (arith, length-joinBelow (x .places) 4 (placeRect (placeEntries x)) (four-rect (placeEntries x)));
       marks = length-replicate (x .places + x .groups) 0;
     }
@@ -58,7 +58,7 @@ right x w v l =
     rw (
       eq-eqb (length (w .nodes)) (2 * (1 + 5 * groupsOf w)) (omega (arith, l .nodes, g)),
       le-leb (groupsOf w) 16384 (omega (arith, g, v .groupsFit)),
-      eq-eqb (length (w .dots)) (2 * placesOf w) (omega (arith, l .dots, p)),
+      eq-eqb (length (w .dots)) (dotsFor (placesOf w)) (omega (arith, l .dots, p)),
       le-leb (placesOf w) 65536 (omega (arith, p, v .placesFit)),
       eq-eqb (length (w .rects)) (4 * placesOf w) (omega (arith, l .rects, p)),
       eq-eqb (length (w .marks)) (placesOf w + groupsOf w) (omega (arith, l .marks, p, g)),
@@ -69,7 +69,7 @@ pub right-fits : (w : World) → lengthsRight w ≡ true → (groupsOf w ≤ 163
 unfolding lengthsRight
 right-fits w e =
     let n = eqb (length (w .nodes)) (2 * (1 + 5 * groupsOf w)) in
-    let d = eqb (length (w .dots)) (2 * placesOf w) in
+    let d = eqb (length (w .dots)) (dotsFor (placesOf w)) in
     let r = eqb (length (w .rects)) (4 * placesOf w) in
     let both = and-t (nodesRight w) (dotsRight w) (and-t (nodesRight w && dotsRight w) (marksRight w) e .0) in
     let dots = and-t (d && leb (placesOf w) 65536) r (both .1) in

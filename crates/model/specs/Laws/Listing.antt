@@ -2,20 +2,20 @@
 --     listed-once  a query lists each dot at most once
 --     listed-le    and at most live of them
 --     references-dots      the references are the dots in all leaves
---     all-query    all, today, is a query with the root's rectangle
+--     all-query    all, today, is a query with the root's rectangle, of all inks
 use mathlib.Core.Path.{_≡_, ap, sym, _∙_}
 use mathlib.Core.Logic.{_↔_}
 use mathlib.Core.List.{List, map}
 use Prim.Native.Nat.{ℕ, _≤_}
 use native.Mathlib.Omega.{arith}
 use lib.ListN.{length}
-use Rattle.geometry.specs.declared.aabb.AABB.{AABB}
 use Rattle.geometry.specs.declared.settings.Settings.{Settings}
 use Rattle.geometry.specs.Settings.{rootRect}
 use Rattle.model.specs.Sums.{sumOver}
 use Rattle.model.specs.Laws.Sums.{sumOver-one, sumOver-map}
 use Rattle.model.specs.Laws.Lists.{filter-le}
-use Rattle.model.specs.Dots.{isHit}
+use Rattle.model.specs.declared.Window.{Window}
+use Rattle.model.specs.Dots.{ofAllInks, isHit}
 use Rattle.model.specs.Trees.{Placed, atPlace, size, sumDots}
 use Rattle.model.specs.Laws.Trees.{dots, sumDots-dots}
 use Rattle.model.specs.Query.{hits}
@@ -27,7 +27,7 @@ use Rattle.model.specs.Laws.Query.{hits-filter}
 use Rattle.model.specs.Laws.Shapes.{below-le, shape-routed}
 use Rattle.model.specs.Laws.Layout.{holds-settings}
 
-module _ (q : AABB) (x : Shape) (v : Valid x) where
+module _ (q : Window) (x : Shape) (v : Valid x) where
   -- no weight sums to more over the listed dots than over all
   hits-le : (h : Placed → ℕ) → sumOver h (hits q (root x) (x .tree)) ≤ sumDots h (x .tree)
   hits-le h =
@@ -53,12 +53,12 @@ pub references-dots : (x : Shape) → references x ≡ length (dots (x .tree))
 unfolding references
 references-dots x = sym (sumDots-dots (λ d. 1) (x .tree)) ∙ sumOver-one (dots (x .tree))
 
--- §8.5: all is a query with the root's rectangle
+-- §8.5: all is a query with the root's rectangle, of all inks
 pub all-query : (w : World) (row : List ℕ) (w′ : World) (row′ : List ℕ) (reply : Reply Found)
-    → All w row w′ row′ reply ↔ Query w (rootRect (w .state .settings)) row w′ row′ reply
+    → All w row w′ row′ reply ↔ Query w (ofAllInks (rootRect (w .state .settings))) row w′ row′ reply
 unfolding Query All allRule
 all-query w row w′ row′ reply =
-    let left : Settings → Shape → Exit ℕ Found = λ s x. carriedOut w row (queryRule (rootRect s) (length row) x) in
+    let left : Settings → Shape → Exit ℕ Found = λ s x. carriedOut w row (queryRule (ofAllInks (rootRect s)) (length row) x) in
     let same : (x : Shape) → Holds w x → left (w .state .settings) x ≡ left (x .settings) x = λ x h. ap (λ s. left s x) (holds-settings w x h) in (
       λ all.
           record { badLength = all .badLength; badSettings = all .badSettings; noTree = all .noTree; tree = λ l s x h. all .tree l s x h ∙ sym (same x h) },

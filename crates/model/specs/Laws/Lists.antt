@@ -1,12 +1,12 @@
 -- Laws of lists in the order of a walk.
 --     joinBelow-ext, length-joinBelow, length-join, length-upTo    lists joined
---     filter-append, filter-none, filter-joinBelow, filter-le, sum-filter      lists filtered
+--     filter-append, filter-none, filter-ext, filter-twice, filter-joinBelow, filter-le, sum-filter    lists filtered
 --     all-map, all-append, all-joinBelow       what holds of every element
---     sumOver-joinBelow    a sum over a joined list
+--     sumOver-joinBelow, sumOver-zero      a sum over a joined list; over one with the weight 0 throughout
 --     map-append, length-map
 use mathlib.Core.Path.{_≡_, refl, ap, ap₂, sym, _∙_}
 use mathlib.Core.List.{List, [], _∷_, _++_, map}
-use mathlib.Core.Bool.{Bool, true, false, cond}
+use mathlib.Core.Bool.{Bool, true, false, cond, _&&_}
 use Prim.Native.Nat.{ℕ, zero, suc, _*_, _≤_, _<_}
 use native.Mathlib.Nat.{le-refl, zero-mul, suc-mul}
 use native.Mathlib.Omega.{arith}
@@ -34,6 +34,14 @@ module _ {ℓ} {A : Type ℓ} where
   filter-none p [] a = refl
   filter-none p (x ∷ xs) a = rw (a .0) (filter-none p xs (a .1))
 
+  pub filter-ext : (p r : A → Bool) (xs : List A) → All (λ x. p x ≡ r x) xs → filter p xs ≡ filter r xs
+  filter-ext p r [] a = refl
+  filter-ext p r (x ∷ xs) a = rw (a .0, filter-ext p r xs (a .1)) refl
+
+  pub filter-twice : (p r : A → Bool) (xs : List A) → filter (λ x. p x && r x) xs ≡ filter r (filter p xs)
+  filter-twice p r [] = refl
+  filter-twice p r (x ∷ xs) = byBool (p x) (λ e. rw (e, filter-twice p r xs) refl) (λ e. rw (e, filter-twice p r xs) refl)
+
   pub filter-joinBelow : (p : A → Bool) (n : ℕ) (f : ℕ → List A) → filter p (joinBelow n f) ≡ joinBelow n (λ i. filter p (f i))
   filter-joinBelow p zero f = refl
   filter-joinBelow p (suc n) f = filter-append p (joinBelow n f) (f n) ∙ ap (λ (r : List A). r ++ filter p (f n)) (filter-joinBelow p n f)
@@ -53,6 +61,10 @@ module _ {ℓ} {A : Type ℓ} where
   pub sumOver-joinBelow : (h : A → ℕ) (n : ℕ) (f : ℕ → List A) → sumOver h (joinBelow n f) ≡ sumBelow n (λ i. sumOver h (f i))
   sumOver-joinBelow h zero f = refl
   sumOver-joinBelow h (suc n) f = omega (arith, sumOver-append h (joinBelow n f) (f n), sumOver-joinBelow h n f)
+
+  pub sumOver-zero : (h : A → ℕ) (xs : List A) → All (λ x. h x ≡ 0) xs → sumOver h xs ≡ 0
+  sumOver-zero h [] a = refl
+  sumOver-zero h (x ∷ xs) a = omega (arith, a .0, sumOver-zero h xs (a .1))
 
   pub filter-le : (h : A → ℕ) (p : A → Bool) (xs : List A) → sumOver h (filter p xs) ≤ sumOver h xs
   filter-le h p [] = omega arith

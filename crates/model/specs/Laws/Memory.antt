@@ -2,7 +2,7 @@
 --     tree-of, chain-of, free-of; of-tree, of-chain, of-free       from the entries in the words to the relation, and back
 --     holds-represented    a world that holds x, read word by word, has the shape x
 --     represented-holds    and the other way round: the relation fixes every word, as the layout's
-use mathlib.Core.Path.{_≡_, refl, ap, sym, _∙_, subst, subst₂}
+use mathlib.Core.Path.{_≡_, refl, ap, ap₂, sym, _∙_, subst, subst₂}
 use mathlib.Core.List.{List, [], _∷_, _++_, map}
 use Prim.Native.Nat.{ℕ, zero, suc, _+_, _*_, _-_, _/_, _%_, _≤_, _<_}
 use native.Mathlib.Nat.{mul-comm, mod-lt, div-add-mod, div-lt-iff-lt-mul}
@@ -23,8 +23,8 @@ use Rattle.model.specs.Shapes.{Shape, Valid}
 use Rattle.model.specs.Layout.{World, none, firstNode, firstDot, NodeEntry, PlaceEntry, treeNodes, freeGroupNodes, chainPlaces, treePlaces, blank}
 use Rattle.model.specs.Layout.{nodeEntries, placeEntries, nodeWords, placeWords, dotWords, rectWords, placeRect, stateOf, layout, cleared, Holds}
 use Rattle.model.specs.Laws.Shapes.{below-le}
-use Rattle.model.specs.Laws.Layout.{two-node, two-dot, four-rect, layout-lengths, holds-all}
-use Rattle.model.specs.Memory.{Mem, firstAt, countAt, idAt, nextAt, rectAt, dotAt, memory, Chained, Represents, FreeGroups, Represented}
+use Rattle.model.specs.Laws.Layout.{two-node, three-dot, four-rect, layout-lengths, holds-all}
+use Rattle.model.specs.Memory.{Mem, firstAt, countAt, idAt, nextAt, inkAt, rectAt, dotAt, memory, Chained, Represents, FreeGroups, Represented}
 use Rattle.model.specs.Laws.Entries.{getD-joinBelow, nodeIs, placeIs, each-found, finds, nodes-once}
 use Rattle.model.specs.Laws.Entries.{places-at, node-range, node-there, place-range, place-there}
 
@@ -124,15 +124,14 @@ of-free m h (g ∷ gs) r =
 
 -- a dot by its words
 dot-words : (w : World) (p : ℕ) (d : Dot) → ((j : ℕ) → j < 4 → getD (w .rects) (4 * p + j) (pos 0) ≡ getD (rectWords (d .rect)) j (pos 0))
-    → idAt (w .dots) p ≡ d .id
-    → dotAt (w .dots) (w .rects) p ≡ d
-unfolding idAt rectAt
-dot-words w p d r id =
+    → idAt (w .dots) p ≡ d .id → inkAt (w .dots) p ≡ d .ink → dotAt (w .dots) (w .rects) p ≡ d
+unfolding idAt inkAt rectAt
+dot-words w p d r id ink =
     let x1 = r 0 (omega arith) in
     let y1 = r 1 (omega arith) in
     let x2 = r 2 (omega arith) in
     let y2 = r 3 (omega arith) in
-    λ i. record { id = id i; rect = record { x1 = x1 i; y1 = y1 i; x2 = x2 i; y2 = y2 i } }
+    λ i. record { id = id i; rect = record { x1 = x1 i; y1 = y1 i; x2 = x2 i; y2 = y2 i }; ink = ink i }
 
 module _ (x : Shape) (v : Valid x) where
   layout-nodes : All (NodeStands (memory (layout x))) (nodeEntries x)
@@ -153,7 +152,7 @@ module _ (x : Shape) (v : Valid x) where
   places-once k = omega (arith, places-at x v k, below-le k (x .places))
 
   layout-places : All (PlaceStands (memory (layout x))) (placeEntries x)
-  unfolding layout idAt nextAt
+  unfolding layout idAt nextAt inkAt
   layout-places =
       let es = placeEntries x in
       let n = x .places in
@@ -165,11 +164,11 @@ module _ (x : Shape) (v : Valid x) where
       (PlaceStands (memory (layout x)))
       (λ e p.
       let range = place-range x v (e .place) (p .0 .1) in
-      let word : (j : ℕ) → j < 2 → getD (joinBelow n (dotWords es)) (2 * e .place + j) 0 ≡ getD (placeWords (e .dot) (e .next)) j 0 =
-      λ j b. getD-joinBelow 2 n (dotWords es) (two-dot es) (e .place) j 0 range b ∙ ap (λ (l : List ℕ). getD l j 0) (p .0 .0) in
+      let word : (j : ℕ) → j < 3 → getD (joinBelow n (dotWords es)) (3 * e .place + j) 0 ≡ getD (placeWords (e .dot) (e .next)) j 0 =
+      λ j b. getD-joinBelow 3 n (dotWords es) (three-dot es) (e .place) j 0 range b ∙ ap (λ (l : List ℕ). getD l j 0) (p .0 .0) in
       let corner : (j : ℕ) → j < 4 → getD (joinBelow n (placeRect es)) (4 * e .place + j) (pos 0) ≡ getD (rectWords (e .dot .rect)) j (pos 0) =
       λ j b. getD-joinBelow 4 n (placeRect es) (four-rect es) (e .place) j (pos 0) range b ∙ ap (λ (l : List ℤ). getD l j (pos 0)) (p .1 .0) in
-      (dot-words (layout x) (e .place) (e .dot) corner (word 0 (omega arith)), word 1 (omega arith)))
+      (dot-words (layout x) (e .place) (e .dot) corner (word 0 (omega arith)) (word 2 (omega arith)), word 1 (omega arith)))
       es
       (all-both (λ e. (dotWords es (e .place) ≡ placeWords (e .dot) (e .next)) × (1 ≤ sumOver (placeIs (e .place)) es))
       (λ e. (placeRect es (e .place) ≡ rectWords (e .dot .rect)) × (1 ≤ sumOver (placeIs (e .place)) es)) es words rects)
@@ -233,6 +232,12 @@ pair-word a b at p q zero h = p
 pair-word a b at p q (suc zero) h = q
 pair-word a b at p q (suc (suc j)) h = absurd (omega arith)
 
+place-word : (d : Dot) (n : ℕ) (at : ℕ → ℕ) → at 0 ≡ d .id → at 1 ≡ n → at 2 ≡ d .ink → (j : ℕ) → j < 3 → at j ≡ getD (placeWords d n) j 0
+place-word d n at p q r zero h = p
+place-word d n at p q r (suc zero) h = q
+place-word d n at p q r (suc (suc zero)) h = r
+place-word d n at p q r (suc (suc (suc j))) h = absurd (omega arith)
+
 corner-word : (r : AABB) (at : ℕ → ℤ) → at 0 ≡ r .x1 → at 1 ≡ r .y1 → at 2 ≡ r .x2 → at 3 ≡ r .y2 → (j : ℕ) → j < 4 → at j ≡ getD (rectWords r) j (pos 0)
 corner-word r at p q s t zero h = p
 corner-word r at p q s t (suc zero) h = q
@@ -242,7 +247,7 @@ corner-word r at p q s t (suc (suc (suc (suc j)))) h = absurd (omega arith)
 
 -- A world that, read word by word, has the valid shape x, holds x: its words are the layout's.
 pub represented-holds : (w : World) (x : Shape) → Valid x → Represented w x → Holds w x
-unfolding cleared layout stateOf firstAt countAt idAt nextAt rectAt
+unfolding cleared layout stateOf firstAt countAt idAt nextAt inkAt rectAt
 represented-holds w x v r =
     let m = memory w in
     let t = of-tree m 0 (x .tree) (r .tree) in
@@ -253,10 +258,10 @@ represented-holds w x v r =
     let es = nodeEntries x in
     let fs = placeEntries x in
     let node-pair : ℕ → List ℕ = λ k. m .first k ∷ m .count k ∷ [] in
-    let place-pair : ℕ → List ℕ = λ k. placeWords (m .dot k) (m .next k) in
+    let place-words : ℕ → List ℕ = λ k. placeWords (m .dot k) (m .next k) in
     let corners : ℕ → List ℤ = λ k. rectWords (m .dot k .rect) in
-    let ds = all-map (PlaceStands m) (λ e. place-pair (e .place) ≡ placeWords (e .dot) (e .next))
-    (λ e p. two _ _ _ _ (ap (λ (d : Dot). d .id) (p .0)) (p .1)) fs ps in
+    let ds = all-map (PlaceStands m) (λ e. place-words (e .place) ≡ placeWords (e .dot) (e .next))
+    (λ e p. ap₂ placeWords (p .0) (p .1)) fs ps in
     let rs = all-map (PlaceStands m) (λ e. corners (e .place) ≡ rectWords (e .dot .rect)) (λ e p. ap (λ (d : Dot). rectWords (d .rect)) (p .0)) fs ps in
     let nodes : w .nodes ≡ joinBelow (1 + 5 * x .groups) (nodeWords es) =
     blocks-equal 0 2 (1 + 5 * x .groups) (w .nodes) (nodeWords es) (omega arith) (omega (arith, r .nodes)) (two-node es)
@@ -265,11 +270,11 @@ represented-holds w x v r =
     ∙ sym (ap (λ (l : List ℕ). getD l j 0)
     (finds (λ e. e .node) (λ e. e .first ∷ e .count ∷ []) nodeWords (λ e es k. refl) node-pair es ns k (node-there x v k b)))) in
     let dots : w .dots ≡ joinBelow (x .places) (dotWords fs) =
-    blocks-equal 0 2 (x .places) (w .dots) (dotWords fs) (omega arith) (r .dots) (two-dot fs)
+    blocks-equal 0 3 (x .places) (w .dots) (dotWords fs) (omega arith) (r .dots) (three-dot fs)
     (λ k b j jb.
-    pair-word (m .dot k .id) (m .next k) (λ j. getD (w .dots) (2 * k + j) 0) refl refl j jb
+    place-word (m .dot k) (m .next k) (λ j. getD (w .dots) (3 * k + j) 0) refl refl refl j jb
     ∙ sym (ap (λ (l : List ℕ). getD l j 0)
-    (finds (λ e. e .place) (λ e. placeWords (e .dot) (e .next)) dotWords (λ e es k. refl) place-pair fs ds k (place-there x v k b)))) in
+    (finds (λ e. e .place) (λ e. placeWords (e .dot) (e .next)) dotWords (λ e es k. refl) place-words fs ds k (place-there x v k b)))) in
     let rects : w .rects ≡ joinBelow (x .places) (placeRect fs) =
     blocks-equal (pos 0) 4 (x .places) (w .rects) (placeRect fs) (omega arith) (r .rects) (four-rect fs)
     (λ k b j jb.

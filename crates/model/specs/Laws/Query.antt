@@ -1,4 +1,4 @@
--- Laws of the query: on a routed tree it lists just the dots that intersect, in the order of the walk; and how many nodes it opens.
+-- Laws of the query: on a routed tree it lists just the dots of its inks that intersect, in the order of the walk; and how many nodes it opens.
 --     Routed       each dot stands in the leaf it routes to
 --     hits-filter  the query is a filter of all dots
 --     opened-le    it opens at most 1 + 5 nodes a branch
@@ -21,6 +21,7 @@ use Rattle.arithmetic.specs.Laws.Tests.{byBool, true-false}
 use Rattle.model.specs.Trees.{Placed, Tree, leaf, branch, sumGroups, AllDots, Shallow, size}
 use Rattle.model.specs.Laws.Trees.{dots, allDots-dots}
 use Rattle.model.specs.Insert.{routeDot}
+use Rattle.model.specs.declared.Window.{Window}
 use Rattle.model.specs.Dots.{isHit}
 use Rattle.model.specs.Laws.Dots.{hit-opens}
 use Rattle.geometry.specs.Cells.{childData, opens}
@@ -31,17 +32,17 @@ abbrev pub Routed : NodeData → Tree → Type 0
 Routed n (leaf chain) = Unit {0}
 Routed n (branch g f) = (i : ℕ) → i < 5 → AllDots (λ d. routeDot n d ≡ i) (f i) × Routed (childData n i) (f i)
 
-module _ (q : AABB) where
-  shut : (n : NodeData) (i : ℕ) → opens q n i ≡ false → (d : Placed) → routeDot n d ≡ i → isHit q (d .dot) ≡ false
+module _ (q : Window) where
+  shut : (n : NodeData) (i : ℕ) → opens (q .rect) n i ≡ false → (d : Placed) → routeDot n d ≡ i → isHit q (d .dot) ≡ false
   shut n i e d z =
-      byBool (isHit q (d .dot)) (λ h. true-false (sym (hit-opens q n (d .dot) h) ∙ ap (opens q n) z ∙ e)) (λ h. h)
+      byBool (isHit q (d .dot)) (λ h. true-false (sym (hit-opens q n (d .dot) h) ∙ ap (opens (q .rect) n) z ∙ e)) (λ h. h)
 
   pub hits-filter : (n : NodeData) (t : Tree) → Routed n t → hits q n t ≡ filter (λ d. isHit q (d .dot)) (dots t)
   hits-filter n (leaf ds) r = refl
   hits-filter n (branch g f) r =
-      joinBelow-ext 5 (λ i. cond (opens q n i) (hits q (childData n i) (f i)) []) (λ i. filter (λ d. isHit q (d .dot)) (dots (f i)))
+      joinBelow-ext 5 (λ i. cond (opens (q .rect) n i) (hits q (childData n i) (f i)) []) (λ i. filter (λ d. isHit q (d .dot)) (dots (f i)))
       (λ i b.
-      byBool (opens q n i)
+      byBool (opens (q .rect) n i)
       (λ e. rw e (hits-filter (childData n i) (f i) (r i b .1)))
       (λ e.
       rw e
@@ -50,6 +51,7 @@ module _ (q : AABB) where
       (allDots-dots (λ d. routeDot n d ≡ i) (f i) (r i b .0)))))))
       ∙ sym (filter-joinBelow (λ d. isHit q (d .dot)) 5 (λ i. dots (f i)))
 
+module _ (q : AABB) where
   pub opened-le : (n : NodeData) (t : Tree) → opened q n t ≤ 1 + 5 * sumGroups (λ g. 1) t
   opened-le n (leaf ds) = omega arith
   opened-le n (branch g f) =

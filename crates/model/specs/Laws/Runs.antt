@@ -7,19 +7,18 @@
 use mathlib.Core.Path.{_≡_, refl, ap, ap₂, sym, _∙_, subst}
 use mathlib.Core.Logic.{_⊎_, inl, inr, ⊎-elim}
 use mathlib.Core.List.{List, [], _∷_, _++_, map}
-use mathlib.Core.Bool.{true, false, not, _||_}
+use mathlib.Core.Bool.{true, false}
 use Prim.Native.Nat.{ℕ, _≤_}
 use native.Mathlib.Omega.{arith}
 use lib.ListN.{length, drop}
-use lib.Dec.{eqb, ltb}
+use lib.Dec.{ltb}
 use Rattle.geometry.specs.declared.aabb.AABB.{AABB}
 use Rattle.geometry.specs.declared.settings.Settings.{Settings}
-use Rattle.geometry.specs.Rectangles.{inverted, farOut}
 use Rattle.arithmetic.specs.Laws.Tests.{byBool, true-false}
-use Rattle.model.specs.Trees.{size}
-use Rattle.geometry.specs.Settings.{rootOf, contains, inRange}
+use Rattle.geometry.specs.Settings.{inRange}
 use Rattle.model.specs.declared.Dot.{Dot}
-use Rattle.model.specs.Shapes.{Shape, fresh, inserted, splitsMade, splitsNeeded, removed, foundBy, cleaned, cleans, listed, opensFor}
+use Rattle.model.specs.declared.Window.{Window}
+use Rattle.model.specs.Shapes.{Shape, Valid, fresh, inserted, splitsMade, removed, foundBy, cleaned, cleans, listed, opensFor}
 use Rattle.model.specs.Layout.{World, groupsOf, placesOf, lengthsRight, layout, cleared, Holds}
 use Rattle.model.specs.declared.answers.Found.{Found}
 use Rattle.model.specs.Calls.{Reply, refused, tooMany, answered, refusal, Verdict, refuse, overflow, accept, carriedOut, Obeys, recorded, yesNo}
@@ -47,7 +46,7 @@ pub data Call : Type 0 where
   toInsert : Dot → Call
   toRemove : ℕ → AABB → Call
   toCleanUp : Call
-  toQuery : AABB → List ℕ → Call
+  toQuery : Window → List ℕ → Call
 
 abbrev pub callOf : Event → Call
 callOf (insert dot reply) = toInsert dot
@@ -118,7 +117,7 @@ module _ (w : World) (x : Shape) (h : Holds w x) where
       let call : Cleanup w (layout y) a = on-tree cleanupRule w [] x h (accept y [] (cleans x)) refl in
       (layout y, call, cleanup-done w (layout y) a call x h .0)
 
-  next-query : (q : AABB) (row : List ℕ) → Next w (eventOn x (toQuery q row)) x
+  next-query : (q : Window) (row : List ℕ) → Next w (eventOn x (toQuery q row)) x
   unfolding Query queryRule
   next-query q row =
       let found = listed q x in
@@ -128,7 +127,7 @@ module _ (w : World) (x : Shape) (h : Holds w x) where
       let call : Query w q row (cleared w) row a = on-tree (queryRule q (length row)) w row x h (overflow (length found)) (rw e refl) in
       rw e (cleared w, call, query-holds w q row (cleared w) row a call x h))
       (λ e.
-      let l : Found = record { hits = length found; opened = opensFor q x } in
+      let l : Found = record { hits = length found; opened = opensFor (q .rect) x } in
       let row′ = found ++ drop (length found) row in
       let call : Query w q row (layout x) row′ (answered l) = on-tree (queryRule q (length row)) w row x h (accept x found l) (rw e refl) in
       rw e (layout x, call, query-holds w q row (layout x) row′ (answered l) call x h))
@@ -173,26 +172,13 @@ refusalOf (query q row row′ reply) = refusal reply
 abbrev pub Late : ℕ → Type 0
 Late k = (k ≡ 0) ⊎ (4 ≤ k)
 
-insert-late : (dot : Dot) (x : Shape) (w : World) → Late (refusal (carriedOut w [] (insertRule dot x) .reply))
-unfolding insertRule
-insert-late dot x w =
-    byBool (inverted (dot .rect) || farOut (dot .rect))
-    (λ e₄. inr (rw e₄ (omega arith)))
-    (λ e₄.
-    byBool (not (contains (rootOf (x .settings)) (dot .rect)))
-    (λ e₅. inr (rw (e₄, e₅) (omega arith)))
-    (λ e₅.
-    byBool (eqb (size (x .tree)) (x .places))
-    (λ e₆. inr (rw (e₄, e₅, e₆) (omega arith)))
-    (λ e₆.
-    byBool (ltb (length (x .freeGroups)) (splitsNeeded dot x))
-    (λ e₇. inr (rw (e₄, e₅, e₆, e₇) (omega arith)))
-    (λ e₇. inl (rw (e₄, e₅, e₆, e₇) refl)))))
+insert-late : (dot : Dot) (x : Shape) → Valid x → (w : World) → Late (refusal (carriedOut w [] (insertRule dot x) .reply))
+insert-late dot x v w = ⊎-elim (λ k. rw (k .1) (inr (k .2))) (λ g. rw (g .3) (inl refl)) (insert-cases dot x v)
 
 -- one call: what it leaves is a tree, and its refusal is late
 pub step-late : (w : World) (e : Event) (v : World) (x : Shape) → Holds w x → Happens w e v → Late (refusalOf e) × (y : Shape) × Holds v y
 step-late w (insert dot reply) v x h call =
-    let late = subst (λ (r : Reply ℕ). Late (refusal r)) (sym (reply-of (insert-exit w dot v reply call x h))) (insert-late dot x w) in
+    let late = subst (λ (r : Reply ℕ). Late (refusal r)) (sym (reply-of (insert-exit w dot v reply call x h))) (insert-late dot x (h .valid) w) in
     ⊎-elim
     (λ k. (late, x, insert-refused w dot v reply call x h (k .0) (k .1) .0))
     (λ g. (late, inserted dot x, insert-accepted w dot v reply call x h g .0))

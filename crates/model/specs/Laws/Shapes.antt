@@ -3,6 +3,7 @@
 --     once-length  a list that has each number below n once has n elements
 --     live-and-free        live dots and free places together are N
 --     valid-height, child-0-leaf, shape-routed     a valid tree is at most D high; its children 0 are leaves; its dots stand where they route to
+--     well-acceptable, good-inks   all its dots are acceptable, so their inks are from 0 to 15
 --     fresh-valid, inserted-valid, removed-valid, cleaned-valid
 use mathlib.Core.Path.{_≡_, refl, ap, sym, _∙_}
 use mathlib.Core.List.{List, [], _∷_, _++_, map}
@@ -21,13 +22,13 @@ use Rattle.model.specs.Laws.Sums.{indicator-same, indicator-other, sumOv
 use Rattle.model.specs.Laws.Sums.{sumBelow-le, sumBelow-add, sumBelow-zero, sumBelow-only, byDec}
 use Rattle.model.specs.Lists.{upTo, count}
 use Rattle.arithmetic.specs.Laws.Tests.{byBool, true-false}
-use Rattle.geometry.specs.Settings.{rootFits, between, inRange, D}
+use Rattle.geometry.specs.Settings.{rootFits, between, inRange, D, acceptable}
 use Rattle.model.specs.declared.Dot.{Dot}
-use Rattle.model.specs.Dots.{acceptableDot}
+use Rattle.model.specs.Dots.{goodInk, acceptableDot}
 use Rattle.geometry.specs.declared.node_data.NodeData.{NodeData}
 use Rattle.geometry.specs.Cells.{mayDivide, rootData, childData}
-use Rattle.model.specs.Trees.{Placed, Tree, leaf, branch, atPlace, size, Shallow}
-use Rattle.model.specs.Laws.Trees.{dots, sumDots-dots}
+use Rattle.model.specs.Trees.{Placed, Tree, leaf, branch, atPlace, size, AllDots, Shallow}
+use Rattle.model.specs.Laws.Trees.{dots, sumDots-dots, allDots-map}
 use Rattle.model.specs.Shapes.{Shape, Valid, WellFormed, below, fresh, inserted, splitsNeeded, removed, foundBy, cleaned, headOf, tailOf, root, placedIn}
 use borrow.Author.Tests.{leb-true, lt-ltb, le-ltb}
 use Rattle.geometry.specs.Laws.Geometry.{levels-root}
@@ -149,6 +150,17 @@ tree-routed s n (branch g f) v = λ i b. (v .1 i b .0, tree-routed s (childData 
 
 pub shape-routed : (x : Shape) → Valid x → Routed (root x) (x .tree)
 shape-routed x v = tree-routed (x .settings) (root x) (x .tree) (v .wellFormed)
+
+pub well-acceptable : (s : Settings) (n : NodeData) (t : Tree) → WellFormed s n t → AllDots (λ d. acceptableDot s (d .dot) ≡ true) t
+well-acceptable s n (leaf c) v = v .0
+well-acceptable s n (branch g f) v = λ i b. well-acceptable s (childData n i) (f i) (v .1 i b .1)
+
+pub good-inks : (x : Shape) → Valid x → AllDots (λ d. goodInk (d .dot) ≡ true) (x .tree)
+unfolding acceptableDot
+good-inks x v =
+    let s = x .settings in
+    allDots-map (λ d. acceptableDot s (d .dot) ≡ true) (λ d. goodInk (d .dot) ≡ true) (λ d e. and-t (acceptable s (d .dot .rect)) (goodInk (d .dot)) e .1)
+    (x .tree) (well-acceptable s (root x) (x .tree) (v .wellFormed))
 
 -- ---- the calls
 

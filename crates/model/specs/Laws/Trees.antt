@@ -1,6 +1,6 @@
 -- Laws of trees.
 --     dots         all dots, in the order of the query's walk
---     sumDots-dots, allDots-dots   a weight over them, and what holds of each
+--     sumDots-dots, allDots-dots, allDots-map      a weight over them, and what holds of each
 --     shallow-le   a tree is no higher than a greater height
 use mathlib.Core.Path.{_≡_, refl, _∙_}
 use mathlib.Core.List.{List}
@@ -10,7 +10,7 @@ use Rattle.model.specs.Sums.{sumOver}
 use Rattle.model.specs.Lists.{joinBelow, All}
 use Rattle.model.specs.Trees.{Placed, Tree, leaf, branch, sumDots, AllDots, Shallow}
 use Rattle.model.specs.Laws.Sums.{sumBelow-ext}
-use Rattle.model.specs.Laws.Lists.{sumOver-joinBelow, all-joinBelow}
+use Rattle.model.specs.Laws.Lists.{sumOver-joinBelow, all-map, all-joinBelow}
 
 abbrev pub dots : Tree → List Placed
 dots (leaf chain) = chain
@@ -24,6 +24,10 @@ sumDots-dots h (branch g f) =
 pub allDots-dots : (P : Placed → Type 0) (t : Tree) → AllDots P t → All P (dots t)
 allDots-dots P (leaf c) a = a
 allDots-dots P (branch g f) a = all-joinBelow P 5 (λ i. dots (f i)) (λ i b. allDots-dots P (f i) (a i b))
+
+pub allDots-map : (P Q : Placed → Type 0) → ((d : Placed) → P d → Q d) → (t : Tree) → AllDots P t → AllDots Q t
+allDots-map P Q f (leaf c) a = all-map P Q f c a
+allDots-map P Q f (branch g k) a = λ i b. allDots-map P Q f (k i) (a i b)
 
 pub shallow-le : (n k : ℕ) (t : Tree) → n ≤ k → Shallow n t → Shallow k t
 shallow-le n k (leaf c) l s = tt

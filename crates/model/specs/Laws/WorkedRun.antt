@@ -20,6 +20,7 @@ use native.Mathlib.Omega.{arith}
 use lib.IntN.{pos}
 use lib.ListN.{length, take, replicate}
 use Rattle.arithmetic.specs.Ints.{maxZ, minZ}
+use Rattle.arithmetic.specs.Bits.{bitAt}
 use Rattle.arithmetic.specs.Laws.Tests.{true-false}
 use Rattle.geometry.specs.declared.aabb.AABB.{AABB}
 use Rattle.geometry.specs.Rectangles.{flat, intersects, middle, within, inverted, near, farOut}
@@ -28,8 +29,9 @@ use Rattle.geometry.specs.Cells.{routeCell, mayDivide, rootCell, rootData, chil
 use Rattle.model.specs.Sums.{indicator, changed, sumOver}
 use Rattle.model.specs.Lists.{count}
 use Rattle.model.specs.declared.Dot.{Dot}
+use Rattle.model.specs.declared.Window.{Window}
 use Rattle.model.specs.declared.answers.Found.{Found}
-use Rattle.model.specs.Dots.{isHit, matches}
+use Rattle.model.specs.Dots.{goodInk, shows, isHit, matches}
 use Rattle.model.specs.Shapes.{fresh, inserted, splitsMade, splitsNeeded, removed, foundBy, cleaned, cleans, listed, opensFor}
 use Rattle.model.specs.Layout.{World, lengthsRight, layout}
 use Rattle.model.specs.Calls.{Reply, refused, answered, exit, insertRule, removeRule, cleanupRule, queryRule, Make, Remove, Cleanup, Query}
@@ -51,7 +53,7 @@ lent =
     record {
       state = record { settings = settings 1; «free_group» = 7; «free_place» = 7; live = 7 };
       nodes = replicate 22 7;
-      dots = replicate 6 7;
+      dots = replicate 9 7;
       rects = replicate 12 (pos 7);
       marks = replicate 5 7;
     }
@@ -63,26 +65,27 @@ made : Make lent (settings 1) start (answered tt)
 unfolding lengthsRight axisFits rootFits inRange
 made = record { badLength = λ l. true-false l; badSettings = λ l e. true-false e; made = λ l e. (refl, refl) }
 
-abbrev dot : ℕ → AABB → Dot
-dot id r = record { id = id; rect = r }
+abbrev dot : ℕ → AABB → ℕ → Dot
+dot id r ink = record { id = id; rect = r; ink = ink }
 
 abbrev one : Dot
-one = dot 1 (rect 1 1 2 2)
+one = dot 1 (rect 1 1 2 2) 0
 
 abbrev two : Dot
-two = dot 2 (rect 3 3 3 3)
+two = dot 2 (rect 3 3 3 3) 1
 
 abbrev three : Dot
-three = dot 3 (rect 9 9 10 10)
+three = dot 3 (rect 9 9 10 10) 2
 
-abbrev window : AABB
-window = rect 9 9 12 12
+-- ink 2 alone
+abbrev window : Window
+window = record { rect = rect 9 9 12 12; inks = 4 }
 
 -- the second is off the film; the third splits twice; the first remove looks in another leaf; the cleanup frees the lower group
 abbrev events : List Event
 events =
     insert one (answered 0)
-    ∷ insert (dot 4 (rect 16 16 18 18)) (refused 5)
+    ∷ insert (dot 4 (rect 16 16 18 18) 15) (refused 5)
     ∷ insert two (answered 2)
     ∷ insert three (answered 0)
     ∷ remove 1 (rect 9 1 10 2) (answered false)
@@ -96,7 +99,7 @@ computed : eventsOn (fresh (settings 1) 2 3) (map callOf events) ≡ events
 unfolding flat intersects middle within inverted near farOut W bitsWithin bitLength halvings D contains
     rootCell rootData childCentre quarterCell childCell childData quadrant routeCell bothTests opens mayDivide
     fresh inserted splitsMade splitsNeeded removed foundBy cleaned cleans listed opensFor
-    insertRule removeRule cleanupRule queryRule isHit matches indicator changed maxZ minZ
+    insertRule removeRule cleanupRule queryRule goodInk shows bitAt isHit matches indicator changed maxZ minZ
 computed = refl
 
 pub happens : (w : World) × Run start events w
@@ -118,7 +121,7 @@ distinct = (
 -- ---- what is promised after it
 
 -- of a book with one dot, which the query meets, just its id is listed
-module _ (q : AABB) (d : Dot) where
+module _ (q : Window) (d : Dot) where
   listed-is : (ids : List ℕ) → Exactly q (d ∷ []) ids → (k : ℕ) → 1 ≤ count k ids → k ≡ d .id
   listed-is ids e k c = let t = e .onlyThose k c in ⊎-elim (λ p. sym (t .2) ∙ sym (ap (λ (x : Dot). x .id) p)) (λ n. absurd n) (t .1)
 
@@ -140,7 +143,7 @@ module _ (w : World) (run : Run start events w) where
 
   pub lists-three : (row row′ : List ℕ) (w′ : World) (reply : Reply Found) → length row ≡ 1 → Query w window row w′ row′ reply
       → (a : Found) × (reply ≡ answered a) × (take (a .hits) row′ ≡ 3 ∷ [])
-  unfolding isHit intersects flat maxZ minZ
+  unfolding isHit shows bitAt intersects flat maxZ minZ
   lists-three row row′ w′ reply e call =
       let l = promised .lists window row row′ w′ reply call (omega (arith, e)) in
       (l .0, l .1, just-one window three refl (take (l .0 .hits) row′) (l .2))
@@ -158,6 +161,6 @@ module _ (w : World) (run : Run start events w) where
       promised .cleanupsEnd (cleanup a₁ ∷ cleanup a₂ ∷ []) w₂ w₃ a₃ (w₁, c₁, (w₂, c₂, refl)) (tt, (tt, tt)) (omega arith) c₃
 
   pub opens-few : (v w′ : World) → Cleanup w v (answered false)
-      → (q : AABB) (row row′ : List ℕ) (a : Found) → Query v q row w′ row′ (answered a) → a .opened ≤ 11
+      → (q : Window) (row row′ : List ℕ) (a : Found) → Query v q row w′ row′ (answered a) → a .opened ≤ 11
   unfolding W bitsWithin bitLength halvings D
   opens-few v w′ said q row row′ a call = promised .opensFew [] [] v w′ (v, said, refl) tt tt q row row′ a call

@@ -7,6 +7,7 @@ use mathlib.Core.Logic.{_⊎_}
 use mathlib.Core.List.{List, []}
 use Prim.Native.Nat.{ℕ}
 use Rattle.geometry.specs.declared.settings.Settings.{Settings}
+use Rattle.model.specs.declared.Dot.{Dot}
 use Rattle.model.specs.Shapes.{Shape}
 use Rattle.model.specs.Layout.{World, Holds}
 use Rattle.model.specs.Calls.{Reply, exit, Insert, Remove, Cleanup, Query, insertRule, removeRule, cleanupRule}
@@ -19,7 +20,7 @@ use Rattle.lines.specs.declared.line.Line.{Line}
 use Rattle.lines.specs.declared.line.Line.the-variants as line
 use Rattle.ticket.specs.declared.first.Start.{Start}
 use Rattle.ticket.specs.declared.first.Start.the-variants as start
-use Rattle.ticket.specs.Ticket.{replyLine, refusalLine, listing, Nine, LineAnswer, Answered}
+use Rattle.ticket.specs.Ticket.{replyLine, refusalLine, listing, plainDot, InsertLine, Nine, LineAnswer, Answered}
 use Rattle.ticket.specs.First.{startOf, MakeLine, NoStart, FirstAnswer, Started}
 
 -- w is a tree, or it is none
@@ -36,19 +37,24 @@ module _ (o p : Output) (before : o .before ≡ p .before) where
   nine m n = (m .0 ∙ sym (n .0), m .1 ∙ sym (n .1), written-fixed o p (refusalLine 9) before (m .2) (n .2))
 
   module _ (w : World) (row : List ℕ) (tree? : TreeOrNone w) (w₁ w₂ : World) (row₁ row₂ : List ℕ) where
+    insert-fixed : (dot : Dot) → (row₁ ≡ row) × InsertLine w dot w₁ o → (row₂ ≡ row) × InsertLine w dot w₂ p → (w₁ ≡ w₂) × (row₁ ≡ row₂) × (o ≡ p)
+    unfolding Insert
+    insert-fixed dot m n =
+        let c = m .1 in
+        let d = n .1 in
+        let e = obeys-fixed _ (insertRule dot) w [] (exit w₁ [] (c .reply)) (exit w₂ [] (d .reply)) tree? (c .call) (d .call) in
+        (ap (λ x. x .world) e, m .0 ∙ sym (n .0), replies _ _ _ _ refl (ap (λ x. x .reply) e) (c .line) (d .line))
+
     answer-fixed : (l : Line) → LineAnswer w row l w₁ row₁ o → LineAnswer w row l w₂ row₂ p → (w₁ ≡ w₂) × (row₁ ≡ row₂) × (o ≡ p)
-    unfolding Insert Remove Cleanup Query
+    unfolding Remove Cleanup Query
     answer-fixed line.Unreadable m n = nine m n
     answer-fixed (line.Call (call.Settings s)) m n = nine (m .answer) (n .answer)
-    answer-fixed (line.Call (call.Insert dot)) m n =
+    answer-fixed (line.Call (call.Insert id r)) m n = insert-fixed (plainDot id r) (m .answer) (n .answer)
+    answer-fixed (line.Call (call.InsertInk dot)) m n = insert-fixed dot (m .answer) (n .answer)
+    answer-fixed (line.Call (call.Remove id r)) m n =
         let c = m .answer .1 in
         let d = n .answer .1 in
-        let e = obeys-fixed _ (insertRule dot) w [] (exit w₁ [] (c .reply)) (exit w₂ [] (d .reply)) tree? (c .call) (d .call) in
-        (ap (λ x. x .world) e, m .answer .0 ∙ sym (n .answer .0), replies _ _ _ _ refl (ap (λ x. x .reply) e) (c .line) (d .line))
-    answer-fixed (line.Call (call.Remove dot)) m n =
-        let c = m .answer .1 in
-        let d = n .answer .1 in
-        let e = obeys-fixed _ (removeRule (dot .id) (dot .rect)) w [] (exit w₁ [] (c .reply)) (exit w₂ [] (d .reply)) tree? (c .call) (d .call) in
+        let e = obeys-fixed _ (removeRule id r) w [] (exit w₁ [] (c .reply)) (exit w₂ [] (d .reply)) tree? (c .call) (d .call) in
         (ap (λ x. x .world) e, m .answer .0 ∙ sym (n .answer .0), replies _ _ _ _ refl (ap (λ x. x .reply) e) (c .line) (d .line))
     answer-fixed (line.Call call.Cleanup) m n =
         let c = m .answer .1 in
@@ -83,8 +89,9 @@ module _ (w : World) (r₁ r₂ : Start) (w₁ w₂ : World) (o p : Output) (bef
   first-fixed : (l : Line) → FirstAnswer w l r₁ w₁ o → FirstAnswer w l r₂ w₂ p → (r₁ ≡ r₂) × (w₁ ≡ w₂) × (o ≡ p)
   first-fixed line.Unreadable m n = no-start m n
   first-fixed (line.Call (call.Settings s)) m n = make-line s m n
-  first-fixed (line.Call (call.Insert dot)) m n = no-start m n
-  first-fixed (line.Call (call.Remove dot)) m n = no-start m n
+  first-fixed (line.Call (call.Insert id r)) m n = no-start m n
+  first-fixed (line.Call (call.InsertInk dot)) m n = no-start m n
+  first-fixed (line.Call (call.Remove id r)) m n = no-start m n
   first-fixed (line.Call call.Cleanup) m n = no-start m n
   first-fixed (line.Call (call.Query r)) m n = no-start m n
 

@@ -1,8 +1,8 @@
 -- What a line says is known by its case: the answer to it is that of the call that it is, or refusal 9.
---     call-settings, call-insert, call-remove, call-cleanup, call-query        a call of a later line
+--     call-settings, call-insert, call-insert-ink, call-remove, call-cleanup, call-query        a call of a later line
 --     line-call, line-unreadable       a later line
 --     first-settings, first-call, first-unreadable     the first line: an `S`, another call, none
-use mathlib.Core.Path.{_≡_, refl, ap, sym, _∙_}
+use mathlib.Core.Path.{_≡_, refl, ap, subst, _∙_}
 use mathlib.Core.List.{List}
 use mathlib.Core.Bool.{Bool, true, false}
 use Prim.Native.Nat.{ℕ}
@@ -10,7 +10,9 @@ use native.Mathlib.Omega.{arith}
 use lib.IntN.{ℤ}
 use Rattle.geometry.specs.declared.aabb.AABB.{AABB}
 use Rattle.geometry.specs.declared.settings.Settings.{Settings}
+use Rattle.model.specs.Dots.{ofAllInks}
 use Rattle.model.specs.declared.Dot.{Dot}
+use Rattle.model.specs.declared.Window.{Window}
 use Rattle.model.specs.declared.State.{State}
 use Rattle.model.specs.Layout.{World, world}
 use Rattle.lines.specs.Reading.{Output, Written}
@@ -21,23 +23,27 @@ use Rattle.lines.specs.declared.line.Line.{Line}
 use Rattle.lines.specs.declared.line.Line.the-variants as line
 use Rattle.ticket.specs.declared.first.Start.{Start}
 use Rattle.ticket.specs.declared.first.Start.the-variants as start
-use Rattle.ticket.specs.Ticket.{refusalLine, InsertLine, RemoveLine, CleanupLine, QueryLine, Called, Answered}
+use Rattle.ticket.specs.Ticket.{refusalLine, plainDot, InsertLine, RemoveLine, CleanupLine, QueryLine, Called, Answered}
 use Rattle.ticket.specs.First.{afterStart, MakeLine, NoStart, FirstAnswer, Started}
 
 -- ---- a call of a later line
 
 module _ {w w′ : World} {row : List ℕ} {out : Output} {c : Call} where
-  pub call-insert : {dot : Dot} → c ≡ call.Insert dot → InsertLine w dot w′ out → Called w row c w′ row out
+  pub call-insert : {id : ℕ} {r : AABB} → c ≡ call.Insert id r → InsertLine w (plainDot id r) w′ out → Called w row c w′ row out
   call-insert e h = rw e (record { answer = (refl, h) })
 
-  pub call-remove : {dot : Dot} → c ≡ call.Remove dot → RemoveLine w dot w′ out → Called w row c w′ row out
+  pub call-insert-ink : {dot : Dot} → c ≡ call.InsertInk dot → InsertLine w dot w′ out → Called w row c w′ row out
+  call-insert-ink e h = rw e (record { answer = (refl, h) })
+
+  pub call-remove : {id : ℕ} {r : AABB} → c ≡ call.Remove id r → RemoveLine w id r w′ out → Called w row c w′ row out
   call-remove e h = rw e (record { answer = (refl, h) })
 
   pub call-cleanup : c ≡ call.Cleanup → CleanupLine w w′ out → Called w row c w′ row out
   call-cleanup e h = rw e (record { answer = (refl, h) })
 
-  pub call-query : {r : AABB} {row′ : List ℕ} → c ≡ call.Query r → QueryLine w r row w′ row′ out → Called w row c w′ row′ out
-  call-query e h = rw e (record { answer = h })
+  pub call-query : {r : AABB} {q : Window} {row′ : List ℕ} → c ≡ call.Query r → q ≡ ofAllInks r → QueryLine w q row w′ row′ out
+      → Called w row c w′ row′ out
+  call-query {row′ = row′} e all h = rw e (record { answer = subst (λ (x : Window). QueryLine w x row w′ row′ out) all h })
 
 -- nothing is changed
 module _ {s s′ : State} {nodes dots : List ℕ} {rects : List ℤ} {marks row : List ℕ} {out : Output} where
@@ -58,8 +64,9 @@ line-call {c = c} e h a = record { says = line.Call c; is = rw e at h; answer = 
 
 abbrev isSettings : Call → Bool
 isSettings (call.Settings s) = true
-isSettings (call.Insert dot) = false
-isSettings (call.Remove dot) = false
+isSettings (call.Insert id r) = false
+isSettings (call.InsertInk dot) = false
+isSettings (call.Remove id r) = false
 isSettings call.Cleanup = false
 isSettings (call.Query r) = false
 
@@ -90,7 +97,8 @@ module _ {nodes dots : List ℕ} {rects : List ℤ} {marks : List ℕ} {input : 
       go : (d : Call) → isSettings d ≡ false
           → FirstAnswer (world before nodes dots rects marks) (line.Call d) r (world (afterStart before r) nodes dots rects marks) out
       go (call.Settings s) z = let no : _≡_ {A = ℕ} 0 1 = cc in absurd (omega arith)
-      go (call.Insert dot) z = no-start ends nine before
-      go (call.Remove dot) z = no-start ends nine before
+      go (call.Insert id q) z = no-start ends nine before
+      go (call.InsertInk dot) z = no-start ends nine before
+      go (call.Remove id q) z = no-start ends nine before
       go call.Cleanup z = no-start ends nine before
       go (call.Query q) z = no-start ends nine before

@@ -13,6 +13,7 @@ use Rattle.geometry.specs.declared.aabb.AABB.{AABB}
 use Rattle.geometry.specs.declared.settings.Settings.{Settings}
 use Rattle.geometry.specs.Settings.{D}
 use Rattle.model.specs.declared.Dot.{Dot}
+use Rattle.model.specs.declared.Window.{Window}
 use Rattle.model.specs.declared.State.{State}
 use Rattle.model.specs.Layout.{World, world}
 use Rattle.model.specs.Calls.{refused, tooMany, answered, yesNo, Make, Insert, Remove, Cleanup, Query}
@@ -50,7 +51,9 @@ module _ {x : Settings} {a : MakeAnswer} {nodes dots : List ℕ} {rects : List �
       → depth ≡ D x → Written (output out₀ out next) (answer 83 (depth ∷ []))
       → (before : State) → MakeLine (world before nodes dots rects marks) x (start.Going s next) (world s nodes′ dots′ rects′ marks′)
       (output out₀ out next)
-  made e h d l before = record { reply = answered tt; call = rw e at (h before); goes = refl; line = subst (λ (n : ℕ). Written (output out₀ out next) (answer 83 (n ∷ []))) d l }
+  made e h d l before =
+      let line : Written (output out₀ out next) (answer 83 (D x ∷ [])) = subst (λ (n : ℕ). Written (output out₀ out next) (answer 83 (n ∷ []))) d l in
+      record { reply = answered tt; call = rw e at (h before); goes = refl; line = line }
 
 -- ---- the calls that change the tree: w before the call, s its state
 
@@ -64,17 +67,17 @@ module _ {w : World} {nodes dots : List ℕ} {rects : List ℤ} {marks : List �
         → Written out (answer 73 (dot .id ∷ n ∷ [])) → InsertLine w dot (world s′ nodes dots rects marks) out
     inserted {n} e h l = record { reply = answered n; call = rw e at h; line = l }
 
-  module _ {dot : Dot} {a : RemoveAnswer} where
-    pub remove-refused : {k : ℕ} → a ≡ remove.Refused k → Remove w (dot .id) (dot .rect) (world (removeState s a) nodes dots rects marks) (removeReply a)
-        → Written out (refusalLine k) → RemoveLine w dot (world s nodes dots rects marks) out
+  module _ {id : ℕ} {r : AABB} {a : RemoveAnswer} where
+    pub remove-refused : {k : ℕ} → a ≡ remove.Refused k → Remove w id r (world (removeState s a) nodes dots rects marks) (removeReply a)
+        → Written out (refusalLine k) → RemoveLine w id r (world s nodes dots rects marks) out
     remove-refused {k} e h l = record { reply = refused k; call = rw e at h; line = l }
 
-    pub removed : {s′ : State} → a ≡ remove.Yes s′ → Remove w (dot .id) (dot .rect) (world (removeState s a) nodes dots rects marks) (removeReply a)
-        → Written out (answer 68 (dot .id ∷ 1 ∷ [])) → RemoveLine w dot (world s′ nodes dots rects marks) out
+    pub removed : {s′ : State} → a ≡ remove.Yes s′ → Remove w id r (world (removeState s a) nodes dots rects marks) (removeReply a)
+        → Written out (answer 68 (id ∷ 1 ∷ [])) → RemoveLine w id r (world s′ nodes dots rects marks) out
     removed e h l = record { reply = answered true; call = rw e at h; line = l }
 
-    pub not-removed : a ≡ remove.No → Remove w (dot .id) (dot .rect) (world (removeState s a) nodes dots rects marks) (removeReply a)
-        → Written out (answer 68 (dot .id ∷ 0 ∷ [])) → RemoveLine w dot (world s nodes dots rects marks) out
+    pub not-removed : a ≡ remove.No → Remove w id r (world (removeState s a) nodes dots rects marks) (removeReply a)
+        → Written out (answer 68 (id ∷ 0 ∷ [])) → RemoveLine w id r (world s nodes dots rects marks) out
     not-removed e h l = record { reply = answered false; call = rw e at h; line = l }
 
   module _ {a : CleanupAnswer} where
@@ -88,7 +91,7 @@ module _ {w : World} {nodes dots : List ℕ} {rects : List ℤ} {marks : List �
 
 -- ---- query
 
-module _ {w w′ : World} {q : AABB} {row row′ : List ℕ} {out : Output} {a : QueryAnswer} where
+module _ {w w′ : World} {q : Window} {row row′ : List ℕ} {out : Output} {a : QueryAnswer} where
   pub query-refused : {k : ℕ} → a ≡ query.Refused k → Query w q row w′ row′ (queryReply a) → Written out (refusalLine k) → QueryLine w q row w′ row′ out
   query-refused {k} e h l = record { reply = refused k; call = rw e at h; line = l }
 

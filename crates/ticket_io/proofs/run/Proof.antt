@@ -1,7 +1,6 @@
 -- The invariant: the rows keep their lengths, and the kept bytes lie in the line. The measure is the turns left.
 use mathlib.Core.Path.{_≡_}
 use Prim.Native.Nat.{_+_, _*_, _≤_}
-use native.Mathlib.Omega.{arith}
 use lib.ListN.{length}
 use borrow.Author.Needs.{needs}
 use Rattle.ticket_io.proofs.Parts.{part-length}

@@ -19,7 +19,7 @@ use Rattle.model.specs.Trees.{Placed, Tree, leaf, childNode, sumDots, atPlace, 
 use Rattle.model.specs.Memory.{read, firstAt, countAt, Represents}
 use Rattle.model.specs.Laws.Shapes.{below-no}
 use Rattle.model.specs.Shapes.{Shape, root}
-use Rattle.model.specs.Layout.{World, Holds}
+use Rattle.model.specs.Layout.{dotsFor, World, Holds}
 use Rattle.model.specs.Laws.Entries.{by-node}
 use Rattle.model.specs.Laws.Layout.{holds-settings}
 use Rattle.model.specs.Laws.Memory.{holds-represented}
@@ -67,7 +67,7 @@ module _ (nodes dots : List ℕ) (rects : List ℤ) {G N : ℕ} {groupHead place
     pub leaf-count : countAt nodes (nodeAt 0 t path) ≡ length chain
     leaf-count = leaf-stored .0
 
-    pub leaf-stands : length dots ≡ 2 * N → length rects ≡ 4 * N
+    pub leaf-stands : length dots ≡ dotsFor N → length rects ≡ 4 * N
         → ChainStands dots rects (firstAt nodes (nodeAt 0 t path)) (countAt nodes (nodeAt 0 t path)) chain
     leaf-stands dotsFit rectsFit =
         chained-stands dots rects (firstAt nodes) (countAt nodes) (firstAt nodes (nodeAt 0 t path)) (countAt nodes (nodeAt 0 t path)) chain

@@ -1,18 +1,16 @@
 -- The rows read as memory: what a store into a row is there.
 --     changed-id   a store of what was there
 --     node-stored, next-stored, dot-stored one law a kind of store
-use mathlib.Core.Path.{_≡_, refl, sym, ap, _∙_}
+use mathlib.Core.Path.{_≡_, refl, sym}
 use mathlib.Core.List.{List}
 use Prim.Native.Nat.{ℕ}
 use lib.IntN.{ℤ}
-use Rattle.geometry.specs.declared.aabb.AABB.{AABB}
 use Rattle.model.specs.Sums.{changed}
-use Rattle.model.specs.Memory.{Mem, read, firstAt, countAt, idAt, nextAt, rectAt, dotAt}
+use Rattle.model.specs.Memory.{Mem, read, firstAt, countAt, nextAt, dotAt}
 use Rattle.model.specs.declared.Dot.{Dot}
-use Rattle.model.specs.Laws.Sums.{changed-same, changed-other}
 use Rattle.memory.specs.declared.node.Node.{Node}
-use Rattle.memory.specs.Laws.Stores.{changed-by, first-set, count-set, next-set, id-set, id-next, next-id, rect-set}
-use Rattle.memory.specs.Rows.{HasNode, HasPlace, HasRect, setNodeAt, setNextAt, setIdAt, setRectAt}
+use Rattle.memory.specs.Laws.Stores.{changed-by, first-set, count-set, next-set, next-dot, dot-next, dot-set}
+use Rattle.memory.specs.Rows.{HasNode, HasPlace, HasRect, setNodeAt, setNextAt, setDotAt, setRectAt}
 use Rattle.tree.specs.Stores.{setFirst, setCount, setDot, setNext}
 
 -- a word that is stored as it was
@@ -33,23 +31,12 @@ module _ (nodes dots : List ℕ) (rects : List ℤ) where
   pub next-stored : (p v : ℕ) → HasPlace dots p → read nodes (setNextAt dots p v) rects ≡ setNext (read nodes dots rects) p v
   next-stored p v h =
       let n = next-set dots p v h in
-      let d = id-next dots p v in
-      λ i. record { first = firstAt nodes; count = countAt nodes; dot = λ k. record { id = d i k; rect = rectAt rects k }; next = n i }
+      let d = dot-next dots rects p v in
+      λ i. record { first = firstAt nodes; count = countAt nodes; dot = d i; next = n i }
 
   pub dot-stored : (p : ℕ) (d : Dot) → HasPlace dots p → HasRect rects p
-      → read nodes (setIdAt dots p (d .id)) (setRectAt rects p (d .rect)) ≡ setDot (read nodes dots rects) p d
+      → read nodes (setDotAt dots p d) (setRectAt rects p (d .rect)) ≡ setDot (read nodes dots rects) p d
   dot-stored p d h hr =
-      let ids = id-set dots p (d .id) h in
-      let rs = rect-set rects p (d .rect) hr in
-      let n = next-id dots p (d .id) in
-      let both : dotAt (setIdAt dots p (d .id)) (setRectAt rects p (d .rect)) ≡ changed (dotAt dots rects) p d =
-      changed-by (dotAt dots rects) (dotAt (setIdAt dots p (d .id)) (setRectAt rects p (d .rect))) p d
-      (λ i. record {
-        id = (ap (λ (f : ℕ → ℕ). f p) ids ∙ changed-same (idAt dots) p (d .id)) i;
-        rect = (ap (λ (f : ℕ → AABB). f p) rs ∙ changed-same (rectAt rects) p (d .rect)) i;
-      })
-      (λ k ne i. record {
-        id = (ap (λ (f : ℕ → ℕ). f k) ids ∙ changed-other (idAt dots) p (d .id) k ne) i;
-        rect = (ap (λ (f : ℕ → AABB). f k) rs ∙ changed-other (rectAt rects) p (d .rect) k ne) i;
-      }) in
+      let both = dot-set dots rects p d h hr in
+      let n = next-dot dots p d in
       λ i. record { first = firstAt nodes; count = countAt nodes; dot = both i; next = n i }

@@ -11,7 +11,7 @@ use Rattle.model.specs.Sums.{indicator, sumOver}
 use Rattle.model.specs.Laws.Sums.{indicator-other, indicator-le, sumBelow-zero, sumOver-map}
 use Rattle.model.specs.Trees.{Tree, childNode, groupCount, atPlace, size}
 use Rattle.model.specs.Shapes.{Shape, Valid}
-use Rattle.model.specs.Layout.{World, blank, Holds}
+use Rattle.model.specs.Layout.{dotsFor, World, blank, Holds}
 use Rattle.model.specs.Laws.Entries.{children-once, by-node}
 use Rattle.model.specs.Memory.{memory}
 use Rattle.model.specs.Laws.Memory.{holds-represented, represented-holds}
@@ -66,7 +66,7 @@ holds-stored w x h =
 -- the lengths, and the state besides its heads
 pub record Framed (w : World) (x : Shape) : Type 0 where
   pub nodes : length (w .nodes) ≡ 2 + 10 * x .groups
-  pub dots : length (w .dots) ≡ 2 * x .places
+  pub dots : length (w .dots) ≡ dotsFor (x .places)
   pub rects : length (w .rects) ≡ 4 * x .places
   pub marks : length (w .marks) ≡ x .places + x .groups
   pub settings : w .state .settings ≡ x .settings

@@ -22,7 +22,7 @@ use Rattle.model.specs.declared.Dot.{Dot}
 use Rattle.model.specs.Insert.{routeDot}
 use Rattle.memory.specs.declared.node.Node.{Node}
 use Rattle.memory.specs.Rows.{HasNode, HasPlace, setNodeAt, setNextAt, HasRect}
-use Rattle.memory.specs.Laws.Stores.{next-length, next-set, id-next, node-length, count-set}
+use Rattle.memory.specs.Laws.Stores.{next-length, next-set, dot-next, node-length, count-set}
 use Rattle.tree.specs.Stores.{setNext}
 use Rattle.tree.specs.Chains.{ChainStands}
 use Rattle.tree.specs.Laws.Chains.{stands-here}
@@ -49,11 +49,11 @@ stands-frame dots rects p v h n [] hp z s = s
 stands-frame dots rects p v h n (d ∷ ds) hp z s =
     let ne : ¬ (h ≡ p) = λ e. omega (arith, ap (λ (y : ℕ). indicator p y) (sym (s .0) ∙ e), indicator-same p) in
     let other : nextAt (setNextAt dots p v) h ≡ nextAt dots h = ap (λ (f : ℕ → ℕ). f h) (next-set dots p v hp) ∙ changed-other (nextAt dots) p v h ne in
-    let ids = ap (λ (f : ℕ → ℕ). f h) (id-next dots p v) in (
+    let dot = ap (λ (f : ℕ → Dot). f h) (dot-next dots rects p v) in (
       s .0,
       omega (arith, s .1, next-length dots p v),
       s .2,
-      (λ i. record { id = ids i; rect = rectAt rects h }) ∙ s .3,
+      dot ∙ s .3,
       s .4,
       subst (λ (y : ℕ). ChainStands (setNextAt dots p v) rects y (n - 1) ds) (sym other)
           (stands-frame dots rects p v (nextAt dots h) (n - 1) ds hp (omega arith) (s .5)),

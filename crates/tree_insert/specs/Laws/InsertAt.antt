@@ -16,8 +16,8 @@ use Rattle.model.specs.Memory.{firstAt, countAt, nextAt}
 use Rattle.model.specs.Laws.Insert.{insert-sum}
 use Rattle.model.specs.Laws.Shapes.{live-and-free, valid-height, inserted-valid}
 use Rattle.model.specs.Laws.Memory.{holds-represented}
-use Rattle.memory.specs.Rows.{setIdAt}
-use Rattle.memory.specs.Laws.Stores.{node-length, next-length, id-length, rect-length}
+use Rattle.memory.specs.Rows.{setDotAt}
+use Rattle.memory.specs.Laws.Stores.{node-length, next-length, dot-length, rect-length}
 use Rattle.tree.specs.declared.find.Leaf.{Leaf}
 use Rattle.tree.specs.Laws.Stored.{stored-holds}
 use Rattle.tree_insert.specs.declared.split.Reached.{Reached}
@@ -69,7 +69,7 @@ module _ {s : State} {dot : Dot} {nodes dots : List ℕ} {rects : List ℤ} {l :
         stored-holds _ (inserted dot x) (inserted-valid dot x v (begun .fits) (begun .room) (omega (arith, begun .needed, begun .enough)))
         (record {
           nodes = node-length nodes₁ node (record { first = p; count = countAt nodes₁ node + 1 }) ∙ now .nodesFit;
-          dots = next-length (setIdAt dots₁ p (dot .id)) p (firstAt nodes₁ node) ∙ id-length dots₁ p (dot .id) ∙ now .dotsFit;
+          dots = next-length (setDotAt dots₁ p dot) p (firstAt nodes₁ node) ∙ dot-length dots₁ p dot ∙ now .dotsFit;
           rects = rect-length rects p (dot .rect) ∙ now .rectsFit;
           marks = length-replicate (length marks) 0 ∙ rep .marks;
           settings = rep .settings;

@@ -11,7 +11,7 @@ use lib.IntN.{ℤ}
 use lib.ListN.{length}
 use Rattle.geometry.specs.declared.node_data.NodeData.{NodeData}
 use Rattle.geometry.specs.declared.centered_aabb.CenteredAABB.{CenteredAABB}
-use Rattle.model.specs.Layout.{branchMark, none}
+use Rattle.model.specs.Layout.{dotsFor, branchMark, none}
 use Rattle.model.specs.Sums.{changed, indicator}
 use Rattle.model.specs.Laws.Sums.{changed-same, changed-other, byDec, indicator-same}
 use Rattle.model.specs.Memory.{Mem, read, countAt}
@@ -104,7 +104,7 @@ split-done {dots = dots} {rects} nodes′ dots′ e e₁ dealt n c s =
 -- where a group is free, the leaf can be split
 pub stored-splittable : (G N : ℕ) (nodes dots : List ℕ) (rects : List ℤ) (groupHead placeHead : ℕ) (t : Tree) (g : ℕ) (free spare : List ℕ)
     → Stored G N (read nodes dots rects) groupHead placeHead t (g ∷ free) spare
-    → length nodes ≡ 2 + 10 * G → length dots ≡ 2 * N → length rects ≡ 4 * N → (path : List ℕ) (chain : List Placed) → Children path
+    → length nodes ≡ 2 + 10 * G → length dots ≡ dotsFor N → length rects ≡ 4 * N → (path : List ℕ) (chain : List Placed) → Children path
     → sub t path ≡ leaf chain → length chain ≤ 65536
     → (s : Splittable nodes dots rects (paths.nodeAt 0 t path) groupHead) × (s .group ≡ g) × (s .chain ≡ chain)
 stored-splittable G N nodes dots rects groupHead placeHead t g free spare stored nodesFit dotsFit rectsFit path chain children e short =

@@ -20,8 +20,8 @@ use Rattle.model.specs.Memory.{Mem, read, countAt, nextAt}
 use Rattle.model.specs.Laws.Insert.{splitCount}
 use Rattle.model.specs.Laws.Sums.{indicator-same, byDec}
 use Rattle.model.specs.Laws.Shapes.{below-no}
-use Rattle.memory.specs.Rows.{HasNode, HasPlace, HasRect, setIdAt}
-use Rattle.memory.specs.Laws.Stores.{id-length}
+use Rattle.memory.specs.Rows.{HasNode, HasPlace, HasRect, setDotAt}
+use Rattle.memory.specs.Laws.Stores.{dot-length}
 use Rattle.tree.specs.Laws.Pushes.{pushWords, push-holds}
 use Rattle.tree.specs.Laws.Readings.{dot-stored}
 use Rattle.tree.specs.Paths.{put}
@@ -38,7 +38,7 @@ pushed-read : (nodes dots : List ℕ) (rects : List ℤ) (a p : ℕ) (dot : Dot)
     ≡ pushWords (read nodes dots rects) a (record { place = p; dot = dot })
 unfolding pushWords
 pushed-read nodes dots rects a p dot hn hp hr =
-    linked-read nodes (setIdAt dots p (dot .id)) (pushedRects rects p dot) a p hn (omega (arith, id-length dots p (dot .id)))
+    linked-read nodes (setDotAt dots p dot) (pushedRects rects p dot) a p hn (omega (arith, dot-length dots p dot))
     ∙ ap (λ (m : Mem). linkWords m a p) (dot-stored nodes dots rects p dot hp hr)
 
 -- where no split is left, the dot goes to the head

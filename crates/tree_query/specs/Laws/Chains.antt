@@ -5,7 +5,7 @@
 --     rest-place, rest-room        what a turn asks: the place that it reads is in the rows, and the row has room
 use mathlib.Core.Path.{_≡_, refl, ap, sym, _∙_, subst}
 use mathlib.Core.List.{List, [], _∷_}
-use mathlib.Core.Bool.{Bool, true, false, not, cond}
+use mathlib.Core.Bool.{Bool, true, false, not}
 use Prim.Native.Nat.{ℕ, _+_, _-_, _≤_, _<_}
 use native.Mathlib.Numerals.{add-one}
 use native.Mathlib.Omega.{arith}
@@ -13,9 +13,9 @@ use lib.IntN.{ℤ}
 use lib.ListN.{length}
 use borrow.Author.Tests.{not-true, not-false}
 use Rattle.arithmetic.specs.Laws.Tests.{byBool}
-use Rattle.geometry.specs.declared.aabb.AABB.{AABB}
-use Rattle.geometry.specs.Rectangles.{intersects, reaches}
+use Rattle.geometry.specs.Rectangles.{reaches}
 use Rattle.geometry.specs.Laws.Geometry.{unreached}
+use Rattle.model.specs.declared.Window.{Window}
 use Rattle.model.specs.declared.Dot.{Dot}
 use Rattle.model.specs.Lists.{All}
 use Rattle.model.specs.Dots.{isHit}
@@ -31,25 +31,26 @@ use Rattle.tree_query.specs.Laws.Rows.{kept-length}
 
 -- ---- one dot
 
-module _ (q : AABB) (d : Dot) (room : ℕ) (row : List ℕ) (at : ℕ) where
-  missed : intersects q (d .rect) ≡ false → (at ≡ hitsAfter q d at) × (row ≡ rowWith q d room row at)
-  unfolding hitsAfter rowWith isHit
+module _ (q : Window) (d : Dot) (room : ℕ) (row : List ℕ) (at : ℕ) where
+  missed : isHit q d ≡ false → (at ≡ hitsAfter q d at) × (row ≡ rowWith q d room row at)
+  unfolding hitsAfter rowWith
   missed e = (rw e refl, rw e refl)
 
-  pub dot-unreached : {b : Bool} → b ≡ reaches q (d .rect) → not b ≡ true → (at ≡ hitsAfter q d at) × (row ≡ rowWith q d room row at)
-  dot-unreached {b} test n = missed (unreached q (d .rect) (sym test ∙ not-true b n))
+  pub dot-unreached : {b : Bool} → b ≡ reaches (q .rect) (d .rect) → not b ≡ true → (at ≡ hitsAfter q d at) × (row ≡ rowWith q d room row at)
+  unfolding isHit
+  dot-unreached {b} test n = missed (rw (unreached (q .rect) (d .rect) (sym test ∙ not-true b n)) refl)
 
-  pub dot-missed : {b : Bool} → b ≡ intersects q (d .rect) → not b ≡ true → (at ≡ hitsAfter q d at) × (row ≡ rowWith q d room row at)
+  pub dot-missed : {b : Bool} → b ≡ isHit q d → not b ≡ true → (at ≡ hitsAfter q d at) × (row ≡ rowWith q d room row at)
   dot-missed {b} test n = missed (sym test ∙ not-true b n)
 
-  pub dot-hit : {b : Bool} → b ≡ intersects q (d .rect) → not b ≡ false → (row′ : List ℕ) → row′ ≡ kept room row at (d .id)
+  pub dot-hit : {b : Bool} → b ≡ isHit q d → not b ≡ false → (row′ : List ℕ) → row′ ≡ kept room row at (d .id)
       → (at + 1 ≡ hitsAfter q d at) × (row′ ≡ rowWith q d room row at)
-  unfolding hitsAfter rowWith isHit
+  unfolding hitsAfter rowWith
   dot-hit {b} test n row′ k = let e = sym test ∙ not-false b n in (rw e refl, rw e k)
 
 -- ---- the loop
 
-module _ (q : AABB) (dots : List ℕ) (rects : List ℤ) (room : ℕ) where
+module _ (q : Window) (dots : List ℕ) (rects : List ℤ) (room : ℕ) where
   abbrev Chain : ℕ → List Placed → Type 0
   Chain head chain = Chained (read [] dots rects) head chain none
 
@@ -148,7 +149,7 @@ module _ (q : AABB) (dots : List ℕ) (rects : List ℤ) (room : ℕ) where
     rest-room w h = (omega (arith, inv .same, w .fits), omega (arith, inv .bound))
 
 -- nothing is left: the whole chain is listed
-module _ (q : AABB) (dots : List ℕ) (rects : List ℤ) (room : ℕ) {row₀ : List ℕ} (found : Found)
+module _ (q : Window) (dots : List ℕ) (rects : List ℤ) (room : ℕ) {row₀ : List ℕ} (found : Found)
     {head count : ℕ} {row : List ℕ} {at place left : ℕ} where
   pub rest-end : Rest q dots rects room row₀ (found .hits) head count row at place left → left ≤ 0
       → ChainWalked q dots rects room row₀ found head count row (record { hits = at; opened = found .opened })

@@ -12,6 +12,7 @@ use Rattle.arithmetic.specs.Laws.Tests.{byBool}
 use Rattle.geometry.specs.declared.aabb.AABB.{AABB}
 use Rattle.geometry.specs.declared.node_data.NodeData.{NodeData}
 use Rattle.geometry.specs.Cells.{childData, opens}
+use Rattle.model.specs.declared.Window.{Window}
 use Rattle.model.specs.Laws.Sums.{sumOver-one, sumBelow-le}
 use Rattle.model.specs.Lists.{filter}
 use Rattle.model.specs.Laws.Lists.{map-append, length-map, length-join, filter-le}
@@ -54,17 +55,18 @@ module _ {room : ℕ} {row : List ℕ} {found : Found} {ds : List Placed} {k : �
   unfolding rowAfter
   left-length l = ap length (l .written) ∙ keptAll-length room row (found .hits) (ids ds)
 
-module _ (q : AABB) where
+module _ (q : Window) where
   pub hits-size : (n : NodeData) (t : Tree) → length (hits q n t) ≤ size t
   hits-size n (leaf chain) =
       let hit : Placed → Bool = λ d. isHit q (d .dot) in
       omega (arith, filter-le (λ (d : Placed). 1) hit chain, sumOver-one (filter hit chain))
   hits-size n (branch g f) =
-      let H : ℕ → List Placed = λ i. cond (opens q n i) (hits q (childData n i) (f i)) [] in
+      let H : ℕ → List Placed = λ i. cond (opens (q .rect) n i) (hits q (childData n i) (f i)) [] in
       let each : (i : ℕ) → length (H i) ≤ size (f i) = λ i.
-      byBool (opens q n i) (λ e. rw e (hits-size (childData n i) (f i))) (λ e. rw e (omega arith)) in
+      byBool (opens (q .rect) n i) (λ e. rw e (hits-size (childData n i) (f i))) (λ e. rw e (omega arith)) in
       omega (arith, length-join 5 H, sumBelow-le 5 (λ i. length (H i)) (λ i. size (f i)) (λ i b. each i))
 
+module _ (q : AABB) where
   pub opened-total : (n : NodeData) (t : Tree) → opened q n t ≤ nodeTotal t
   opened-total n (leaf chain) = omega arith
   opened-total n (branch g f) =

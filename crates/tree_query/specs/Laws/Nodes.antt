@@ -9,11 +9,11 @@ use native.Mathlib.Omega.{arith}
 use lib.IntN.{ℤ}
 use lib.Dec.{eqb}
 use lib.ListN.{length}
-use Rattle.geometry.specs.declared.aabb.AABB.{AABB}
 use Rattle.geometry.specs.declared.centered_aabb.CenteredAABB.{CenteredAABB}
 use Rattle.geometry.specs.declared.node_data.NodeData.{NodeData}
 use Rattle.geometry.specs.declared.quadrants.Quadrants.{Quadrants}
 use Rattle.geometry.specs.Cells.{childData, cellCode, opens}
+use Rattle.model.specs.declared.Window.{Window}
 use Rattle.model.specs.Sums.{sumBelow}
 use Rattle.model.specs.Laws.Sums.{sumOver-one, sumBelow-term}
 use Rattle.model.specs.Trees.{Placed, Tree, leaf, branch, childNode, size}
@@ -51,7 +51,7 @@ child-stands {levels = levels} {g = g} {f = f} s i b =
       few = omega (arith, s .few, sumBelow-term 5 (λ j. size (f j)) i b);
     }
 
-module _ (nodes dots : List ℕ) (rects : List ℤ) (room : ℕ) (row : List ℕ) (found : Found) (a levels : ℕ) (q : AABB) (cell : CenteredAABB)
+module _ (nodes dots : List ℕ) (rects : List ℤ) (room : ℕ) (row : List ℕ) (found : Found) (a levels : ℕ) (q : Window) (cell : CenteredAABB)
     {node : Node} {b : Bool} (words : node ≡ nodeAt nodes a) (told : b ≡ eqb (node .count) branchMark) where
   -- ---- a leaf
 
@@ -79,7 +79,7 @@ module _ (nodes dots : List ℕ) (rects : List ℤ) (room : ℕ) (row : List ℕ
     leaf-gives row′ r w = go
       where
         go : (t : Tree) (d : NodeData) → TreeStands nodes dots rects levels a t → d .cell ≡ cell
-            → Left room row found (hits q d t) (opened q d t) row′ r
+            → Left room row found (hits q d t) (opened (q .rect) d t) row′ r
         go (leaf chain) d s e =
             let l = (rw words at w) chain (chain-rows nodes [] dots rects (firstAt nodes a) chain (s .represents .1)) (sym (s .represents .0)) in
             let more : found .opened + 1 + 0 ≡ found .opened + 1 = omega arith in
@@ -102,7 +102,7 @@ module _ (nodes dots : List ℕ) (rects : List ℤ) (room : ℕ) (row : List ℕ
         go (leaf chain) s = absurd (no-leaf chain s)
         go (branch g f) s = shallow-branch levels g f (s .shallow) .0
 
-    pub branch-asks : (quadrants : Quadrants) → quadrants .code ≡ cellCode cell q → NodeWalk cell nodes dots rects room row found a levels
+    pub branch-asks : (quadrants : Quadrants) → quadrants .code ≡ cellCode cell (q .rect) → NodeWalk cell nodes dots rects room row found a levels
         → GroupWalk q cell quadrants nodes dots rects room row (opening found) (node .first) (levels - 1) 5
     branch-asks quadrants e w = rw words (go (w .tree) (w .stands) (w .grows))
       where
@@ -129,12 +129,12 @@ module _ (nodes dots : List ℕ) (rects : List ℤ) (room : ℕ) (row : List ℕ
     branch-gives row′ r w = go
       where
         go : (t : Tree) (d : NodeData) → TreeStands nodes dots rects levels a t → d .cell ≡ cell
-            → Left room row found (hits q d t) (opened q d t) row′ r
+            → Left room row found (hits q d t) (opened (q .rect) d t) row′ r
         go (leaf chain) d s e = absurd (no-leaf chain s)
         go (branch g f) d s e =
             let l = (rw words at w) g f d (s .represents .1) (λ i low b. child-stands s i b) e in
-            let H : ℕ → List Placed = λ i. cond (opens q d i) (hits q (childData d i) (f i)) [] in
-            let O : ℕ → ℕ = λ i. cond (opens q d i) (opened q (childData d i) (f i)) 0 in
+            let H : ℕ → List Placed = λ i. cond (opens (q .rect) d i) (hits q (childData d i) (f i)) [] in
+            let O : ℕ → ℕ = λ i. cond (opens (q .rect) d i) (opened (q .rect) (childData d i) (f i)) 0 in
             let many : found .opened + 1 + sumLast 5 O ≡ found .opened + (1 + sumBelow 5 O) = omega arith in
             record {
               answer = l .answer ∙ (λ i. record { hits = found .hits + length (join-five H i); opened = many i });

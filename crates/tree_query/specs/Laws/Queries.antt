@@ -12,11 +12,11 @@ use native.Mathlib.Omega.{arith}
 use lib.IntN.{ℤ}
 use lib.ListN.{length, replicate}
 use borrow.Author.Tests.{lt-ltb, le-ltb}
-use Rattle.geometry.specs.declared.aabb.AABB.{AABB}
 use Rattle.geometry.specs.declared.centered_aabb.CenteredAABB.{CenteredAABB}
 use Rattle.geometry.specs.Settings.{rootFits, inRange, D}
 use Rattle.geometry.specs.Cells.{rootCell, rootData}
 use Rattle.geometry.specs.Laws.Ranges.{accepted, root-range}
+use Rattle.model.specs.declared.Window.{Window}
 use Rattle.model.specs.declared.State.{State}
 use Rattle.model.specs.Trees.{Placed}
 use Rattle.model.specs.Query.{hits, opened}
@@ -59,7 +59,7 @@ module _ (s : State) (nodes dots : List ℕ) (rects : List ℤ) where
         cellFits = rw e (root-range (s .settings) (tree-root t));
       }
 
-  pub root-met : (q : AABB) (room : ℕ) (row : List ℕ) {cell : CenteredAABB} {levels : ℕ} (row′ : List ℕ) (r : Found)
+  pub root-met : (q : Window) (room : ℕ) (row : List ℕ) {cell : CenteredAABB} {levels : ℕ} (row′ : List ℕ) (r : Found)
       → cell ≡ rootCell (s .settings) → levels ≡ D (s .settings) → NodeWalked q cell nodes dots rects room row start 0 levels row′ r
       → Met s q nodes dots rects room row row′ r
   unfolding NodeWalked Met after rowAfter listed opensFor rootData
@@ -70,16 +70,16 @@ module _ (s : State) (nodes dots : List ℕ) (rects : List ℤ) where
       let l = walked (x .tree) n (rw deep stands) (ap rootCell (sym same) ∙ sym e) in
       let found = hits q n (x .tree) in
       let many : 0 + length found ≡ length (ids found) = omega (arith, length-map (λ (d : Placed). d .dot .id) found) in
-      let nodes-opened : 0 + opened q n (x .tree) ≡ opened q n (x .tree) = omega arith in
+      let nodes-opened : 0 + opened (q .rect) n (x .tree) ≡ opened (q .rect) n (x .tree) = omega arith in
       (l .answer ∙ (λ i. record { hits = many i; opened = nodes-opened i }), l .written)
 
-  pub met-counted : (q : AABB) (row row′ : List ℕ) (r : Found) → Met s q nodes dots rects 0 row row′ r → Counted s q nodes dots rects r
+  pub met-counted : (q : Window) (row row′ : List ℕ) (r : Found) → Met s q nodes dots rects 0 row row′ r → Counted s q nodes dots rects r
   unfolding Met Counted
   met-counted q row row′ r m = λ marks x h. m marks x h .0
 
   -- ---- how many there are
 
-  counted-hits : (q : AABB) (r : Found) → Counted s q nodes dots rects r
+  counted-hits : (q : Window) (r : Found) → Counted s q nodes dots rects r
       → (marks : List ℕ) (x : Shape) → Holds (world s nodes dots rects marks) x → r .hits ≡ length (listed q x)
   unfolding Counted
   counted-hits q r c marks x h = ap (λ (f : Found). f .hits) (c marks x h)
@@ -87,7 +87,7 @@ module _ (s : State) (nodes dots : List ℕ) (rects : List ℤ) where
   -- ---- the answer
 
   -- refusal 8: the ids outnumber the row, and nothing is changed
-  pub queried-many : (q : AABB) (row : List ℕ) (r : Found) → Counted s q nodes dots rects r → length row < r .hits
+  pub queried-many : (q : Window) (row : List ℕ) (r : Found) → Counted s q nodes dots rects r → length row < r .hits
       → Queried s q nodes dots rects row row (tooMany (r .hits))
   unfolding Queried queryRule cleared
   queried-many q row r c short = λ marks x h.
@@ -96,17 +96,17 @@ module _ (s : State) (nodes dots : List ℕ) (rects : List ℤ) where
       (ap (λ (n : ℕ). exit (world s nodes dots rects (replicate (length marks) 0)) row (tooMany n)) many)
 
   -- there is room for all that is listed: for every live dot, or for those that were counted
-  abbrev Fits : AABB → ℕ → Type 0
+  abbrev Fits : Window → ℕ → Type 0
   Fits q room = (marks : List ℕ) (x : Shape) → Holds (world s nodes dots rects marks) x → length (listed q x) ≤ room
 
-  pub room-live : (q : AABB) (room : ℕ) → s .live ≤ room → Fits q room
+  pub room-live : (q : Window) (room : ℕ) → s .live ≤ room → Fits q room
   room-live q room l marks x h = omega (arith, listed-le q x (h .valid), holds-represented (world s nodes dots rects marks) x h .live)
 
-  pub room-counted : (q : AABB) (room : ℕ) (r : Found) → Counted s q nodes dots rects r → r .hits ≤ room → Fits q room
+  pub room-counted : (q : Window) (room : ℕ) (r : Found) → Counted s q nodes dots rects r → r .hits ≤ room → Fits q room
   room-counted q room r c l marks x h = omega (arith, counted-hits q r c marks x h)
 
   -- the row begins with the ids and keeps its tail
-  pub queried-listed : (q : AABB) (row row′ : List ℕ) (r : Found) → Met s q nodes dots rects (length row) row row′ r
+  pub queried-listed : (q : Window) (row row′ : List ℕ) (r : Found) → Met s q nodes dots rects (length row) row row′ r
       → Fits q (length row) → Queried s q nodes dots rects row row′ (answered r)
   unfolding Met Queried queryRule cleared
   queried-listed q row row′ r m fits = λ marks x h.

@@ -18,13 +18,13 @@ use Rattle.model.specs.Dots.{zeroDot}
 use Rattle.model.specs.Trees.{Placed}
 use Rattle.model.specs.Remove.{firstHas}
 use Rattle.model.specs.Shapes.{Shape, root, foundBy, removed}
-use Rattle.model.specs.Layout.{World, Holds, none, world}
+use Rattle.model.specs.Layout.{dotsFor, World, Holds, none, world}
 use Rattle.model.specs.Memory.{nextAt, firstAt, countAt}
 use Rattle.model.specs.Calls.{answered, exit, carriedOut, removeRule}
 use Rattle.model.specs.Laws.Memory.{holds-represented}
 use Rattle.memory.specs.declared.node.Node.{Node}
 use Rattle.memory.specs.Nodes.{nodeAt}
-use Rattle.memory.specs.Rows.{HasNode, HasPlace, HasRect, setNodeAt, setNextAt, setIdAt, setRectAt}
+use Rattle.memory.specs.Rows.{HasNode, HasPlace, HasRect, setNodeAt, setNextAt, setDotAt, setRectAt}
 use Rattle.tree.specs.declared.find.Leaf.{Leaf}
 use Rattle.tree.specs.Chains.{ChainStands}
 use Rattle.tree.specs.Routes.{leafFor, LeadsTo}
@@ -52,7 +52,7 @@ module _ {w : World} {x : Shape} (h : Holds w x) (r : AABB) where
   pub leads-searchable : {l : Leaf} {node : Node} → LeadsTo (w .state .settings) (w .nodes) r l → node ≡ nodeAt (w .nodes) (l .node)
       → Searchable (w .dots) node
   leads-searchable leads e =
-      let short : length (w .dots) ≤ 131072 = omega (arith, holds-represented w x h .dots, h .valid .placesFit) in
+      let short : length (w .dots) ≤ dotsFor 65536 = omega (arith, holds-represented w x h .dots, h .valid .placesFit) in
       subst (Searchable (w .dots)) (sym (e ∙ ap (λ (y : Leaf). nodeAt (w .nodes) (y .node)) (leads-leaf h r leads)))
       (record { short = short; chain = chainFor r (root x) (x .tree); linked = leaf-linked })
 
@@ -113,7 +113,7 @@ module _ {s : State} {nodes dots : List ℕ} {rects : List ℤ} {marks : List �
 
   pub look-yes : ¬ (hit .place ≡ none) → {s′ : State} {nodes′ dots₁ dots′ : List ℕ} {rects′ : List ℤ}
       → nodes′ ≡ setNodeAt nodes (l .node) (unlinkedNode dots node hit) → dots₁ ≡ unlinkedDots dots hit
-      → dots′ ≡ setNextAt (setIdAt dots₁ (hit .place) (zeroDot .id)) (hit .place) (s .«free_place») → rects′ ≡ setRectAt rects (hit .place) (zeroDot .rect)
+      → dots′ ≡ setNextAt (setDotAt dots₁ (hit .place) zeroDot) (hit .place) (s .«free_place») → rects′ ≡ setRectAt rects (hit .place) (zeroDot .rect)
       → s′ ≡ stateWithout s hit
       → exit (world s′ nodes′ dots′ rects′ (replicate (length marks) 0)) [] (answered true) ≡ carriedOut (world s nodes dots rects marks) [] (removeRule id r x)
   unfolding removeRule foundBy
@@ -121,7 +121,7 @@ module _ {s : State} {nodes dots : List ℕ} {rects : List ℤ} {marks : List �
       let f = has-found ne in
       let b = leafFor r (root x) 0 (x .tree) .node in
       let nodesSame : nodes′ ≡ nodesWithout nodes dots b hit = en ∙ (λ i. setNodeAt nodes (at-leaf i) (unlinkedNode dots (at-words i) hit)) in
-      let freed : List ℕ → List ℕ = λ d. setNextAt (setIdAt d (hit .place) (zeroDot .id)) (hit .place) (s .«free_place») in
+      let freed : List ℕ → List ℕ = λ d. setNextAt (setDotAt d (hit .place) zeroDot) (hit .place) (s .«free_place») in
       let dotsSame : dots′ ≡ dotsWithout dots hit (s .«free_place») = ed ∙ ap freed e₁ in
       let zeros : List ℕ = replicate (length marks) 0 in
       let left = world (stateWithout s hit) (nodesWithout nodes dots b hit) (dotsWithout dots hit (s .«free_place»)) (rectsWithout rects hit) zeros in

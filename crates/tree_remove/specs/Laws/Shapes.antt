@@ -25,8 +25,8 @@ use Rattle.model.specs.Laws.Shapes.{removed-valid}
 use Rattle.model.specs.Laws.Remove.{found-gone}
 use Rattle.model.specs.Laws.Memory.{holds-represented}
 use Rattle.memory.specs.Nodes.{nodeAt}
-use Rattle.memory.specs.Rows.{HasPlace, HasRect, setIdAt}
-use Rattle.memory.specs.Laws.Stores.{node-length, next-length, id-length, rect-length}
+use Rattle.memory.specs.Rows.{HasPlace, HasRect, setDotAt}
+use Rattle.memory.specs.Laws.Stores.{node-length, next-length, dot-length, rect-length}
 use Rattle.tree.specs.Paths.{put}
 use Rattle.tree.specs.Paths as paths
 use Rattle.tree.specs.Stored.{Stored}
@@ -164,7 +164,7 @@ module _ {s : State} {nodes dots : List ℕ} {rects : List ℤ} {marks : List �
       stored-holds _ (removed id r x) (removed-valid id r x (h .valid) found)
       (record {
         nodes = node-length nodes node₀ (unlinkedNode dots (nodeAt nodes node₀) hit) ∙ rep .nodes;
-        dots = next-length (setIdAt cut p (zeroDot .id)) p (s .«free_place») ∙ id-length cut p (zeroDot .id) ∙ unlinked-length hit ∙ rep .dots;
+        dots = next-length (setDotAt cut p zeroDot) p (s .«free_place») ∙ dot-length cut p zeroDot ∙ unlinked-length hit ∙ rep .dots;
         rects = rect-length rects p (zeroDot .rect) ∙ rep .rects;
         marks = length-replicate (length marks) 0 ∙ rep .marks;
         settings = rep .settings;

@@ -14,8 +14,8 @@ use Rattle.model.specs.Layout.{none}
 use Rattle.model.specs.Memory.{Mem, read, firstAt, countAt, nextAt}
 use Rattle.memory.specs.declared.node.Node.{Node}
 use Rattle.memory.specs.Nodes.{nodeAt}
-use Rattle.memory.specs.Rows.{HasNode, HasPlace, HasRect, setNodeAt, setNextAt, setIdAt, setRectAt}
-use Rattle.memory.specs.Laws.Stores.{next-length, id-length}
+use Rattle.memory.specs.Rows.{HasNode, HasPlace, HasRect, setNodeAt, setNextAt, setDotAt, setRectAt}
+use Rattle.memory.specs.Laws.Stores.{next-length, dot-length}
 use Rattle.tree.specs.Stores.{setCount, setNext}
 use Rattle.tree.specs.Laws.Unlinks.{freeWords, popWords, dropWords}
 use Rattle.tree.specs.Laws.Readings.{changed-id, setNode, node-stored, next-stored, dot-stored}
@@ -24,9 +24,9 @@ use Rattle.tree_remove.specs.Search.{unlinkedNode, unlinkedDots}
 
 -- a place is freed
 freed-read : (nodes dots : List ℕ) (rects : List ℤ) (p head : ℕ) → HasPlace dots p → HasRect rects p
-    → read nodes (setNextAt (setIdAt dots p (zeroDot .id)) p head) (setRectAt rects p (zeroDot .rect)) ≡ freeWords (read nodes dots rects) p head
+    → read nodes (setNextAt (setDotAt dots p zeroDot) p head) (setRectAt rects p (zeroDot .rect)) ≡ freeWords (read nodes dots rects) p head
 freed-read nodes dots rects p head hp hr =
-    next-stored nodes (setIdAt dots p (zeroDot .id)) (setRectAt rects p (zeroDot .rect)) p head (omega (arith, id-length dots p (zeroDot .id)))
+    next-stored nodes (setDotAt dots p zeroDot) (setRectAt rects p (zeroDot .rect)) p head (omega (arith, dot-length dots p zeroDot))
     ∙ ap (λ (m : Mem). setNext m p head) (dot-stored nodes dots rects p zeroDot hp hr)
 
 -- the rows and the state that the code leaves: the dot at hit leaves the chain of the node b
@@ -34,7 +34,7 @@ abbrev pub nodesWithout : List ℕ → List ℕ → ℕ → Hit → List ℕ
 nodesWithout nodes dots b hit = setNodeAt nodes b (unlinkedNode dots (nodeAt nodes b) hit)
 
 abbrev pub dotsWithout : List ℕ → Hit → ℕ → List ℕ
-dotsWithout dots hit head = setNextAt (setIdAt (unlinkedDots dots hit) (hit .place) (zeroDot .id)) (hit .place) head
+dotsWithout dots hit head = setNextAt (setDotAt (unlinkedDots dots hit) (hit .place) zeroDot) (hit .place) head
 
 abbrev pub rectsWithout : List ℤ → Hit → List ℤ
 rectsWithout rects hit = setRectAt rects (hit .place) (zeroDot .rect)
@@ -52,7 +52,7 @@ module _ (nodes dots : List ℕ) (rects : List ℤ) (b head : ℕ) (here : HasNo
       let y = eq-eqb none none refl in
       let v : Node = record { first = nextAt dots p; count = countAt nodes b - 1 } in
       let start : without (record { place = p; previous = none })
-      ≡ read (setNodeAt nodes b v) (setNextAt (setIdAt dots p (zeroDot .id)) p head) (setRectAt rects p (zeroDot .rect)) = rw y refl in
+      ≡ read (setNodeAt nodes b v) (setNextAt (setDotAt dots p zeroDot) p head) (setRectAt rects p (zeroDot .rect)) = rw y refl in
       start ∙ freed-read (setNodeAt nodes b v) dots rects p head hp hr
       ∙ ap (λ (m : Mem). freeWords m p head) (node-stored nodes dots rects b v here)
 
@@ -64,7 +64,7 @@ module _ (nodes dots : List ℕ) (rects : List ℤ) (b head : ℕ) (here : HasNo
       let linked = setNextAt dots q (nextAt dots p) in
       let v : Node = record { first = firstAt nodes b; count = countAt nodes b - 1 } in
       let start : without (record { place = p; previous = q })
-      ≡ read (setNodeAt nodes b v) (setNextAt (setIdAt linked p (zeroDot .id)) p head) (setRectAt rects p (zeroDot .rect)) = rw y refl in
+      ≡ read (setNodeAt nodes b v) (setNextAt (setDotAt linked p zeroDot) p head) (setRectAt rects p (zeroDot .rect)) = rw y refl in
       let next = changed (m .next) q (m .next p) in
       let same : setNode (setNext m q (m .next p)) b v ≡ setCount (setNext m q (m .next p)) b (m .count b - 1) =
       (λ i. record { first = changed-id (m .first) b i; count = changed (m .count) b (m .count b - 1); dot = m .dot; next = next }) in

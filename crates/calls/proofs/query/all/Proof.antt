@@ -1,4 +1,4 @@
--- The check, then a query with the root's rectangle.
+-- The check, then a query with the root's rectangle, of all inks.
 use Rattle.tree_query.specs.Laws.Queries.{tree-root}
 use Rattle.calls.specs.Laws.Pattern.{checked-tree}
 use Rattle.calls.specs.Laws.Calls.{all-refused, all-answered}
@@ -26,10 +26,11 @@ query-row-requires c κs =
 returns-2 : tie.Need-returns-2
 returns-2 c =
     let done : tie.After-query-row = search in
+    let window : tie.After-all-inks = search in
     let root : tie.After-root-rect = search in
     let tree : tie.Else1 = search in
     let checked : tie.After-check = search in
-    all-answered (checked .check .ensures) _ (tree .if1 .left) (root .root-rect .ensures) _ _ (done .query-row .ensures)
+    all-answered (checked .check .ensures) _ (tree .if1 .left) (root .root-rect .ensures) (window .all-inks .ensures) _ _ (done .query-row .ensures)
 
 pub all-spec : {M : Type 1} → statement M
 all-spec =
@@ -38,4 +39,4 @@ all-spec =
     -- the check
     (λ c κs. search needs) (λ c. search needs) returns
     -- the operation
-    root-rect-requires query-row-requires (λ c. search needs) (λ c. search needs) returns-2)
+    root-rect-requires (λ c κs. search needs) query-row-requires (λ c. search needs) (λ c. search needs) returns-2)

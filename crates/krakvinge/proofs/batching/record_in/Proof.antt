@@ -1,4 +1,4 @@
--- Six words, four of them by `signed`.
+-- Seven words, four of them by `signed`.
 use Prim.Native.Nat.{_+_, _*_}
 use mir.Syntax.{w32}
 use lib.ListN.{getD}
@@ -11,6 +11,7 @@ use Rattle.krakvinge.proofs.batching.record_in.Tie as tie
 returns : tie.Need-returns
 unfolding recordIn
 returns c =
+    let at-signed4 : tie.After-signed4 = search in
     let at-signed3 : tie.After-signed3 = search in
     let at-signed2 : tie.After-signed2 = search in
     let at-signed : tie.After-signed = search in
@@ -20,8 +21,11 @@ returns c =
     let x1 = got w32 (at-signed .signed .ok) (at-signed .signed .ensures) in
     let y1 = got w32 (at-signed2 .signed2 .ok) (at-signed2 .signed2 .ensures) in
     let x2 = got w32 (at-signed3 .signed3 .ok) (at-signed3 .signed3 .ensures) in
-    let y2 = got w32 (c .before .before .signed4 .ok) (c .before .before .signed4 .ensures) in
-    λ k. record { kind = getD row (6 * i) 0; dot = record { id = getD row (6 * i + 1) 0; rect = record { x1 = x1 k; y1 = y1 k; x2 = x2 k; y2 = y2 k } } }
+    let y2 = got w32 (at-signed4 .signed4 .ok) (at-signed4 .signed4 .ensures) in
+    λ k. record {
+      kind = getD row (7 * i) 0;
+      dot = record { id = getD row (7 * i + 1) 0; rect = record { x1 = x1 k; y1 = y1 k; x2 = x2 k; y2 = y2 k }; ink = getD row (7 * i + 6) 0 };
+    }
 
 pub record-in-spec : {M : Type 1} → statement M
 record-in-spec =
@@ -32,4 +36,4 @@ record-in-spec =
     (λ c κs. search needs) (λ c. search needs) (λ c. search needs) (λ c. search needs)
     (λ c κs. search needs) (λ c. search needs) (λ c. search needs) (λ c. search needs)
     (λ c κs. search needs) (λ c. search needs) (λ c. search needs) (λ c. search needs)
-    (λ c. search needs) (λ c. search needs) returns)
+    (λ c. search needs) (λ c. search needs) (λ c. search needs) (λ c. search needs) (λ c. search needs) returns)

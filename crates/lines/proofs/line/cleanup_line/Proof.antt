@@ -13,7 +13,7 @@ returns c =
 returns-2 : tie.Need-returns-2
 returns-2 c =
     let start : tie.Start = search in
-    line-none (start .pre) (nothing-more (start .args .line .now)) (lt-leb _ _ (c .if1 .left))
+    line-none (start .pre) (nothing-more (start .args .line .now)) (search) (lt-leb _ _ (c .if1 .left))
 
 pub cleanup-line-spec : {M : Type 1} → statement M
 cleanup-line-spec = tie.close (tie.spec returns returns-2)

@@ -15,7 +15,7 @@ returns-2 : tie.Need-returns-2
 returns-2 c =
     let read : tie.After-read-four = search in
     let start : tie.Start = search in
-    line-none (start .pre) (reads-whole (read .read-four .ensures)) (search)
+    line-none (start .pre) (reads-whole (read .read-four .ensures)) (search) (search)
 
 pub query-line-spec : {M : Type 1} → statement M
 query-line-spec = tie.close (tie.spec (λ c κs. search needs) returns returns-2)

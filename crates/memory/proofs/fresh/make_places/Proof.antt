@@ -23,9 +23,11 @@ loop-holds c = (refl, refl, omega arith, λ k b. absurd (omega arith))
 
 set-dot-requires : tie.Need-set-dot-requires Inv-loop μ-loop
 set-dot-requires c κs =
+    let at-loop : tie.In-loop Inv-loop μ-loop = search in
+    let at-loop' : tie.At-loop Inv-loop μ-loop = search in
     let at-start : tie.Start Inv-loop μ-loop = search in (
-      omega (arith, at-start .pre .1, c .before .before .loop-test .taken, c .before .before .before .loop .inv .0),
-      omega (arith, at-start .pre .2, c .before .before .loop-test .taken, c .before .before .before .loop .inv .1),
+      omega (arith, at-start .pre .1, at-loop .loop-test .taken, at-loop' .loop .inv .0),
+      omega (arith, at-start .pre .2, at-loop .loop-test .taken, at-loop' .loop .inv .1),
     )
 
 fresh-next-requires : tie.Need-fresh-next-requires Inv-loop μ-loop
@@ -56,6 +58,7 @@ loop-less c =
 loop-again : tie.Need-loop-again Inv-loop μ-loop
 loop-again c =
     let at-set-dot : tie.After-set-dot Inv-loop μ-loop = search in
+    let at-zero : tie.After-zero Inv-loop μ-loop = search in
     let at-loop : tie.In-loop Inv-loop μ-loop = search in
     let at-loop' : tie.At-loop Inv-loop μ-loop = search in
     let at-start : tie.Start Inv-loop μ-loop = search in
@@ -64,7 +67,7 @@ loop-again c =
       c .before .before .set-next .kept .0 ∙ at-set-dot .set-dot .kept .0 ∙ has .0,
       at-set-dot .set-dot .kept .1 .0 ∙ has .1,
       omega (arith, at-loop .loop-test .taken),
-      λ k b. rw (c .before .before .set-next .ensures, at-set-dot .set-dot .ensures .0, at-set-dot .set-dot .ensures .1)
+      λ k b. rw (c .before .before .set-next .ensures, at-set-dot .set-dot .ensures .0, at-set-dot .set-dot .ensures .1, at-zero .zero .ensures)
           (fresh-place-more _ _ _ _ (omega (arith, at-start .pre .1, has .0)) (omega (arith, at-start .pre .2, has .1)) (has .3) _
           (c .before .before .before .fresh-next .ensures) k b),
     )
@@ -85,6 +88,7 @@ make-places-spec =
     Inv-loop
     μ-loop
     loop-holds
+    (λ c κs. tt)
     set-dot-requires
     fresh-next-requires
     set-next-requires

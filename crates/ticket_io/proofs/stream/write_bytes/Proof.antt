@@ -1,6 +1,5 @@
 -- The invariant: what is written lies in the bytes. The measure is the turns left.
 use Prim.Native.Nat.{_≤_}
-use native.Mathlib.Omega.{arith}
 use lib.ListN.{length}
 use borrow.Author.Needs.{needs}
 use Rattle.ticket_io.proofs.stream.write_bytes.Statement.{statement}

@@ -1,7 +1,5 @@
 -- The five ways: the live number, the tree, the free groups, the free places, and the marks of all of them.
-use Prim.Native.Nat.{_/_}
 use native.Mathlib.Omega.{arith}
-use lib.ListN.{length}
 use borrow.Author.Needs.{needs}
 use Rattle.tree_check.specs.Laws.Regions.{root-sound}
 use Rattle.tree_check.specs.Laws.Checks.{Freed, no-live, no-tree, free-ready, no-groups, groups-found, places-ready, no-places, told}
@@ -12,8 +10,7 @@ abbrev start : tie.Else3 → tie.Start
 start c = search
 
 freed : (c : tie.Else3) → Freed (start c .args .state) (start c .args .nodes .now) (start c .args .dots .now) (start c .args .rects .now)
-    (start c .args .marks .now) (length (start c .args .dots .now) / 2) (length (start c .args .nodes .now) / 10)
-    (c .before .before .before .check-free .last .1 .0)
+    (start c .args .marks .now) (start c .args .places) (start c .args .groups) (c .before .before .before .check-free .last .1 .0)
 freed c =
     let free : tie.After-check-free = search in
     let tree : tie.After-check-node = search in

@@ -1,4 +1,4 @@
--- A dot that the query meets is kept at the next position; any other changes nothing.
+-- A dot that the query asks for is kept at the next position; any other changes nothing.
 use borrow.Author.Needs.{needs}
 use Rattle.tree_query.specs.Laws.Chains.{dot-unreached, dot-missed, dot-hit}
 use Rattle.tree_query.proofs.walk.list_dot.Statement.{statement}
@@ -18,10 +18,10 @@ hit : tie.Need-returns-3
 hit c =
     let kept : tie.After-keep = search in
     let met : tie.Else2 = search in
-    let test : tie.After-intersects-with = search in
+    let test : tie.After-is-hit = search in
     let start : tie.Start = search in
     let a = start .args in
-    dot-hit (a .query) (a .dot) (a .room) (a .row .now) (a .hits) (test .intersects-with .ensures) (met .if2 .left) _ (kept .keep .ensures)
+    dot-hit (a .query) (a .dot) (a .room) (a .row .now) (a .hits) (test .is-hit .ensures) (met .if2 .left) _ (kept .keep .ensures)
 
 pub list-dot-spec : {M : Type 1} → statement M
 list-dot-spec =

@@ -4,7 +4,7 @@ use mathlib.Core.Bool.{_||_}
 use mathlib.Core.Path.{ap, _∙_}
 use lib.Dec.{eqb}
 use borrow.Author.Needs.{needs}
-use Rattle.geometry.specs.Cells.{bitAt}
+use Rattle.arithmetic.specs.Bits.{bitAt}
 use Rattle.geometry.specs.Laws.Codes.{opens-code}
 use Rattle.geometry.proofs.centered_aabb.CenteredAABB.opens.Statement.{statement}
 use Rattle.geometry.proofs.centered_aabb.CenteredAABB.opens.Tie as tie
