@@ -1,4 +1,4 @@
-/* A worked example for a C host: a film of 16 by 16, three dots of two inks, a window, and what is refused. */
+/* A worked example for a C host: a film of 16 by 16, three dots of two inks, a window, a grid of windows, and what is refused. */
 #include "krakvinge.h"
 #include <inttypes.h>
 #include <stdio.h>
@@ -38,6 +38,19 @@ static void query(uint16_t inks, size_t room) {
     printf("], %" PRIu32 " nodes opened\n", answer[1]);
 }
 
+static void grid(int32_t columns, int32_t rows) {
+    uint32_t counts[4] = {0};
+    uint64_t result = krakvinge_grid(TREE, 0, 0, 8, 8, columns, rows, counts, WORDS(counts), ANSWER);
+    if (result != 0) {
+        printf("grid: refusal %" PRIu32 ": %s\n", KRAKVINGE_REFUSAL(result), krakvinge_refusal_text(KRAKVINGE_REFUSAL(result)));
+        return;
+    }
+    printf("grid: counts [");
+    for (size_t i = 0; i < KRAKVINGE_GRID_WORDS(columns, rows); i++)
+        printf("%s%" PRIu32, i == 0 ? "" : ", ", counts[i]);
+    printf("], total %" PRIu64 "\n", KRAKVINGE_TOTAL(answer));
+}
+
 static uint64_t batch(void) {
     const uint32_t minus_1 = UINT32_MAX;
     const uint32_t records[] = {
@@ -65,6 +78,8 @@ int main(void) {
     query(KRAKVINGE_ALL_INKS, PLACES);
     query(1 << 3, PLACES);
     query(KRAKVINGE_ALL_INKS, 1);
+    grid(2, 2);
+    grid(65, 1);
     refused |= krakvinge_leaves(TREE, row, WORDS(row), ANSWER);
     printf("leaves: %" PRIu32 ", the first [%d, %d, %d, %d, %d, %d]\n", answer[0], row[0], row[1], row[2], row[3], row[4], row[5]);
     refused |= krakvinge_all(TREE, ids, WORDS(ids), ANSWER);

@@ -1,9 +1,19 @@
-// A worked example for a Rust host: a film of 16 by 16, three dots of two inks, a window, and what is refused.
+// A worked example for a Rust host: a film of 16 by 16, three dots of two inks, a window, a grid of windows, and what is refused.
 #[path = "rust/krakvinge.rs"]
 #[allow(dead_code)]
 mod krakvinge;
 
-use krakvinge::{Record, Refused, Settings, Tree, ALL_INKS};
+use krakvinge::{Grid, Record, Refused, Settings, Tree, ALL_INKS};
+
+fn grid(film: &mut Tree) -> Result<(), Refused> {
+    let (windows, mut counts) = (Grid { x: 0, y: 0, width: 8, height: 8, columns: 2, rows: 2 }, [0; 4]);
+    let total = film.grid(&windows, &mut counts)?;
+    println!("grid: counts {counts:?}, total {total}");
+    if let Err(refused) = film.grid(&Grid { columns: 65, rows: 1, ..windows }, &mut counts) {
+        println!("grid: {refused}");
+    }
+    Ok(())
+}
 
 fn run() -> Result<(), Refused> {
     let settings = Settings { left: 0, top: 0, width: 16, height: 16, depth_limit: 2, leaf_limit: 2, smallest_cell: 1 };
@@ -24,6 +34,7 @@ fn run() -> Result<(), Refused> {
     if let Err(refused) = film.query([0, 0, 8, 8], ALL_INKS, &mut ids[..1]) {
         println!("query: {refused}");
     }
+    grid(&mut film)?;
     let mut row = [0; 24];
     let leaves = film.leaves(&mut row)?;
     println!("leaves: {leaves}, the first {:?}", &row[..6]);

@@ -14,9 +14,10 @@
  * an id as a link.
  *
  * Each call returns 0, or its refusal (KRAKVINGE_REFUSAL, krakvinge_refusal_text); 8 has 256 times the number of answers added (KRAKVINGE_WANTED).
- * An answer of query and all is one word of the row, an answer of leaves six (KRAKVINGE_LEAF_WORDS).
+ * An answer of query, all and grid is one word of the row, an answer of leaves six (KRAKVINGE_LEAF_WORDS).
  * An accepted call writes its answer to the answer row; a refused one leaves it and the state as they were:
  *     insert: splits, 0       remove, cleanup: 1 for yes or 0 for no, 0       query, all: hits, opened       leaves, references: number, 0
+ *     grid: the total, its low word first (KRAKVINGE_TOTAL)
  * A batch has a row of answers instead, a word for each record.
  */
 #ifndef KRAKVINGE_H
@@ -28,7 +29,7 @@
 extern "C" {
 #endif
 
-#define KRAKVINGE_VERSION "0.3.0"
+#define KRAKVINGE_VERSION "0.4.0"
 
 #define KRAKVINGE_STATE_WORDS 10
 #define KRAKVINGE_ANSWER_WORDS 2
@@ -43,6 +44,10 @@ extern "C" {
 
 /* The words of so many leaves in the row of krakvinge_leaves. */
 #define KRAKVINGE_LEAF_WORDS(leaves) (6 * (size_t)(leaves))
+
+/* The words of a grid's counts, and the total in the answer row of krakvinge_grid. */
+#define KRAKVINGE_GRID_WORDS(columns, rows) ((size_t)(columns) * (size_t)(rows))
+#define KRAKVINGE_TOTAL(answer) ((uint64_t)(answer)[1] << 32 | (answer)[0])
 
 /* The refusal in a result, and of refusal 8 the number of answers. */
 #define KRAKVINGE_REFUSAL(result) ((uint32_t)((result) % 256))
@@ -60,6 +65,8 @@ enum krakvinge_refusal {
     KRAKVINGE_ROW_TOO_SHORT = 8,
     KRAKVINGE_UNKNOWN_KIND = 9,
     KRAKVINGE_BAD_INK = 10,
+    KRAKVINGE_BAD_WINDOWS = 11,
+    KRAKVINGE_BAD_CORNER = 12,
 };
 
 static inline const char *krakvinge_refusal_text(uint32_t refusal) {
@@ -75,6 +82,8 @@ static inline const char *krakvinge_refusal_text(uint32_t refusal) {
     case KRAKVINGE_ROW_TOO_SHORT: return "the row is too short for the answers";
     case KRAKVINGE_UNKNOWN_KIND: return "the record is of no known kind";
     case KRAKVINGE_BAD_INK: return "the ink is above 15";
+    case KRAKVINGE_BAD_WINDOWS: return "the windows' size or number is out of range";
+    case KRAKVINGE_BAD_CORNER: return "the grid's far corner is out of range";
     default: return "no refusal of this library";
     }
 }
@@ -127,6 +136,14 @@ uint64_t krakvinge_leaves(const uint32_t *state, size_t state_words, const uint3
 uint64_t krakvinge_references(const uint32_t *state, size_t state_words, const uint32_t *nodes, size_t node_words, const uint32_t *dots,
                               size_t dot_words, const int32_t *rects, size_t rect_words, uint8_t *marks, size_t mark_bytes, uint32_t *answer,
                               size_t answer_words);
+
+/* How many dots, of all inks, intersect each window of a grid. The first window begins at x, y; each is of that width and height (1 or more), and
+ * there are 1 to 64 columns and rows of them, the far corner at most at 1073741823. The counts stand in the row's first words
+ * (KRAKVINGE_GRID_WORDS), rows downward and columns rising within a row; a longer row keeps its tail. The total is the sum of the counts. */
+uint64_t krakvinge_grid(const uint32_t *state, size_t state_words, const uint32_t *nodes, size_t node_words, const uint32_t *dots,
+                        size_t dot_words, const int32_t *rects, size_t rect_words, uint8_t *marks, size_t mark_bytes, int32_t x, int32_t y,
+                        int32_t width, int32_t height, int32_t columns, int32_t rows, uint32_t *counts, size_t count_words, uint32_t *answer,
+                        size_t answer_words);
 
 /* The check that each call begins with, alone: 0 where the rows are a tree. */
 uint64_t krakvinge_check(const uint32_t *state, size_t state_words, const uint32_t *nodes, size_t node_words, const uint32_t *dots,

@@ -1,7 +1,8 @@
 /* Replays recorded calls against the host's static library: replay_calls FILE. A line is 'tree', settings, groups and places, for a fresh tree;
  * or a call, '=', its result and, where it was accepted, the two words of its answer and those that it listed; or 'nodes', 'dots' or 'freegroups',
  * '=', and the words of the memory or the free groups' numbers at this point. A recorded word '_' stands for any.
- * The numbers of a call: insert id x1 y1 x2 y2 ink; remove id x1 y1 x2 y2; query x1 y1 x2 y2 mask room; all and leaves room. */
+ * The numbers of a call: insert id x1 y1 x2 y2 ink; remove id x1 y1 x2 y2; query x1 y1 x2 y2 mask room; all and leaves room;
+ * grid x y width height columns rows room. */
 #include "../host/krakvinge.h"
 #include <inttypes.h>
 #include <stdbool.h>
@@ -11,7 +12,7 @@
 
 #define GROUPS 64
 #define PLACES 64
-#define ROW 1024
+#define ROW 4100
 #define UNWRITTEN 77777
 
 /* A tree and the row that a call is lent. */
@@ -49,6 +50,8 @@ static int count_of(const char *kind) {
         return 6;
     if (strcmp(kind, "remove") == 0)
         return 5;
+    if (strcmp(kind, "grid") == 0)
+        return 7;
     if (strcmp(kind, "all") == 0 || strcmp(kind, "leaves") == 0)
         return 1;
     return strcmp(kind, "cleanup") == 0 || strcmp(kind, "references") == 0 ? 0 : -1;
@@ -59,7 +62,7 @@ static bool room_of(const char *kind, const long long *n, int count, size_t *roo
     bool query = strcmp(kind, "query") == 0;
     if (count != count_of(kind) || (query && (n[4] < 0 || n[4] > KRAKVINGE_ALL_INKS)))
         return false;
-    *room = query ? (size_t)n[5] : count == 1 ? (size_t)n[0] : 0;
+    *room = query ? (size_t)n[5] : count == 7 ? (size_t)n[6] : count == 1 ? (size_t)n[0] : 0;
     return *room <= ROW;
 }
 
@@ -74,6 +77,8 @@ static uint64_t call(const char *kind, const long long *n, size_t room) {
         return krakvinge_query(TREE, RECT(n), (uint16_t)n[4], ids, room, ANSWER);
     if (strcmp(kind, "all") == 0)
         return krakvinge_all(TREE, ids, room, ANSWER);
+    if (strcmp(kind, "grid") == 0)
+        return krakvinge_grid(TREE, RECT(n), (int32_t)n[4], (int32_t)n[5], ids, room, ANSWER);
     if (strcmp(kind, "leaves") == 0)
         return krakvinge_leaves(TREE, numbers, room, ANSWER);
     return krakvinge_references(TREE, ANSWER);
@@ -109,6 +114,13 @@ static const char *memory(const char *kind) {
     return text;
 }
 
+/* The words that an accepted call wrote to the row. */
+static size_t listed_by(const char *kind, const long long *n) {
+    if (strcmp(kind, "grid") == 0)
+        return KRAKVINGE_GRID_WORDS(n[4], n[5]);
+    return strcmp(kind, "leaves") == 0 ? KRAKVINGE_LEAF_WORDS(answer[0]) : answer[0];
+}
+
 /* The library's answer; NULL for a question of no known kind. */
 static const char *replay(const char *kind, const long long *n, int count) {
     size_t room;
@@ -123,7 +135,7 @@ static const char *replay(const char *kind, const long long *n, int count) {
     if (result == 0)
         at += sprintf(text + at, " %" PRIu32 " %" PRIu32, answer[0], answer[1]);
     bool leaves = strcmp(kind, "leaves") == 0;
-    size_t listed = result != 0 || room == 0 ? 0 : answer[0] * (leaves ? 6u : 1u);
+    size_t listed = result != 0 || room == 0 ? 0 : listed_by(kind, n);
     for (size_t i = 0; i < listed && i < room; i++)
         at += leaves ? sprintf(text + at, " %" PRId32, numbers[i]) : sprintf(text + at, " %" PRIu32, ids[i]);
     for (size_t i = listed; i < ROW; i++)

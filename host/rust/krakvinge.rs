@@ -36,6 +36,8 @@ impl std::fmt::Display for Refused {
             7 => "the splits need more groups than are free",
             8 => return write!(f, "refusal 8: the row is too short for {} answers", self.wanted),
             10 => "the ink is above 15",
+            11 => "the windows' size or number is out of range",
+            12 => "the grid's far corner is out of range",
             _ => "no refusal of this library",
         };
         write!(f, "refusal {}: {why}", self.number)
@@ -49,6 +51,17 @@ impl std::error::Error for Refused {}
 pub struct Listed {
     pub hits: usize,
     pub opened: u32,
+}
+
+/// The windows of a report: the first one's corner, the size of each, and how many columns and rows there are, 1 to 64 of each.
+#[derive(Clone, Copy, PartialEq, Eq, Debug)]
+pub struct Grid {
+    pub x: i32,
+    pub y: i32,
+    pub width: i32,
+    pub height: i32,
+    pub columns: i32,
+    pub rows: i32,
 }
 
 /// A record of a batch, as its seven 32-bit words. A cleanup's id and rectangle mean nothing, nor does the ink of a record that is no insert.
@@ -99,6 +112,7 @@ pub mod raw {
         pub fn krakvinge_all(s: *const u32, sn: usize, n: *const u32, nn: usize, d: *const u32, dn: usize, r: *const i32, rn: usize, m: *mut u8, mn: usize, i: *mut u32, il: usize, a: *mut u32, an: usize) -> u64;
         pub fn krakvinge_leaves(s: *const u32, sn: usize, n: *const u32, nn: usize, d: *const u32, dn: usize, r: *const i32, rn: usize, m: *mut u8, mn: usize, w: *mut i32, wn: usize, a: *mut u32, an: usize) -> u64;
         pub fn krakvinge_references(s: *const u32, sn: usize, n: *const u32, nn: usize, d: *const u32, dn: usize, r: *const i32, rn: usize, m: *mut u8, mn: usize, a: *mut u32, an: usize) -> u64;
+        pub fn krakvinge_grid(s: *const u32, sn: usize, n: *const u32, nn: usize, d: *const u32, dn: usize, r: *const i32, rn: usize, m: *mut u8, mn: usize, x: i32, y: i32, width: i32, height: i32, columns: i32, rows: i32, c: *mut u32, cn: usize, a: *mut u32, an: usize) -> u64;
         pub fn krakvinge_check(s: *const u32, sn: usize, n: *const u32, nn: usize, d: *const u32, dn: usize, r: *const i32, rn: usize, m: *mut u8, mn: usize) -> u64;
     }
 }
@@ -197,6 +211,16 @@ impl Rows {
         unsafe { raw::krakvinge_references(s.as_ptr(), s.len(), n.as_ptr(), n.len(), d.as_ptr(), d.len(), r.as_ptr(), r.len(), m.as_mut_ptr(), m.len(), a.as_mut_ptr(), a.len()) }
     }
 
+    pub fn grid(&mut self, g: &Grid, counts: &mut [u32], a: &mut [u32]) -> u64 {
+        let Rows { state: s, nodes: n, dots: d, rects: r, marks: m } = self;
+        unsafe {
+            raw::krakvinge_grid(
+                s.as_ptr(), s.len(), n.as_ptr(), n.len(), d.as_ptr(), d.len(), r.as_ptr(), r.len(), m.as_mut_ptr(), m.len(),
+                g.x, g.y, g.width, g.height, g.columns, g.rows, counts.as_mut_ptr(), counts.len(), a.as_mut_ptr(), a.len(),
+            )
+        }
+    }
+
     pub fn check(&mut self) -> u64 {
         let Rows { state: s, nodes: n, dots: d, rects: r, marks: m } = self;
         unsafe { raw::krakvinge_check(s.as_ptr(), s.len(), n.as_ptr(), n.len(), d.as_ptr(), d.len(), r.as_ptr(), r.len(), m.as_mut_ptr(), m.len()) }
@@ -271,6 +295,13 @@ impl Tree {
     pub fn references(&mut self) -> Result<u32, Refused> {
         let result = self.rows.references(&mut self.answer);
         Ok(self.accepted(result)?[0])
+    }
+
+    /// Counts the dots in each window, rows downward and columns rising within a row; answers the counts' total.
+    pub fn grid(&mut self, grid: &Grid, counts: &mut [u32]) -> Result<u64, Refused> {
+        let result = self.rows.grid(grid, counts, &mut self.answer);
+        let [low, high] = self.accepted(result)?;
+        Ok((high as u64) << 32 | low as u64)
     }
 
     fn accepted(&self, result: u64) -> Result<[u32; 2], Refused> {

@@ -6,7 +6,7 @@ use crate::random::Random;
 
 const LOWEST: i64 = -1073741824;
 const HIGHEST: i64 = 1073741823;
-const EXTREMES: [i64; 10] =
+pub const EXTREMES: [i64; 10] =
     [i32::MIN as i64, i32::MIN as i64 + 1, LOWEST - 1, LOWEST, LOWEST + 1, HIGHEST - 1, HIGHEST, HIGHEST + 1, i32::MAX as i64 - 1, i32::MAX as i64];
 
 fn axis(random: &mut Random) -> (i64, i64) {

@@ -4,6 +4,7 @@
 //     differential --record           writes a fixed list with the original's answers
 //     differential --differences      where the two differ on purpose (docs/DIFFERENCES.md)
 //     differential --batches          batches against single calls
+//     differential --grids            grid reports against the original's queries
 //     differential --damaged          rows of wrong lengths, settings out of range and damaged trees, which every call turns down
 mod batches;
 mod calls;
@@ -13,6 +14,8 @@ mod damaged;
 mod differences;
 mod faults;
 mod geometry;
+mod grid_faults;
+mod grids;
 mod ink_faults;
 mod inked;
 #[path = "../../host/rust/krakvinge.rs"]
@@ -92,9 +95,9 @@ fn recorded(call: &Call, answer: &Answer) -> String {
     format!(" {first} {second}{row}")
 }
 
-// Short lists in turn until the text is long enough.
+// Short lists in turn until the text is long enough; grids after each.
 fn record() -> bool {
-    let mut random = Random(7);
+    let (mut random, mut chance) = (Random(7), Random(64));
     let mut size = 0;
     while size < 300_000 {
         let mut list = lists::short(&mut random);
@@ -109,6 +112,13 @@ fn record() -> bool {
         }
         size += text.len();
         print!("{text}");
+        match grids::recorded(&list, &mut chance) {
+            Ok(text) => print!("{text}"),
+            Err(text) => {
+                println!("{}\n{text}", list.head());
+                return false;
+            }
+        }
     }
     true
 }
@@ -120,6 +130,7 @@ fn main() {
         Some("--faults") => find_faults(),
         Some("--record") => record(),
         Some("--batches") => batches::as_single_calls(),
+        Some("--grids") => grids::as_queries(),
         Some("--damaged") => damaged::turned_down(),
         Some("--differences") => differences::as_documented(),
         _ => compare_lists(number(0, CALLS), number(1, SEED)),

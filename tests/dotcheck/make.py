@@ -1,12 +1,9 @@
 #!/usr/bin/env python3
 # Writes the recorded inputs and the outputs that docs/SPECIFICATION.md §13 asks for, each pair a file NAME.in and NAME.out.
-import os, sys
-folder = sys.argv[1]
+import sys
+from recorded import Folder
+put = Folder(sys.argv[1]).put
 S = b'S,0,0,16,16,2,2,1\n'
-H = b'DOTS,1\n'
-def put(name, given, answers):
-    open(os.path.join(folder, name + '.in'), 'wb').write(given)
-    open(os.path.join(folder, name + '.out'), 'wb').write(H + answers)
 put('empty', b'', b'E,9\n')
 put('lone_lf', b'\n', b'E,9\n')
 put('two_lf', b'\n' + S, b'E,9\n')
@@ -21,6 +18,7 @@ put('settings_beyond', b'S,0,0,16,16,2,2,4294967296\n', b'E,9\n')
 put('settings_far', b'S,2147483648,0,16,16,2,2,1\n', b'E,9\n')
 put('settings_wide', b'S,0,0,2147483647,16,2,2,1\n', b'E,2\n')
 put('later_s', S + S + b'C\n', b'S,2\nE,9\nC,0\n')
+put('grid_line', S + b'G,0,0,8,8,2,2\nC\n', b'S,2\nE,9\nC,0\n')
 put('refusals', S + b'I,1,2,1,1,2\nI,1,1073741824,1,1073741825,2\nI,1,-1,-1,0,0\nI,1,2147483648,0,0,0\n', b'S,2\nE,4\nE,4\nE,5\nE,9\n')
 put('numbers', S + b''.join(b'D,%s,0,0,0,0\n' % n for n in (b'4294967295', b'4294967296', b'01', b'-0', b'+1', b' 1', b'1 ', b'', b'-1', b'0', b'99999999999999999999')),
     b'S,2\nD,4294967295,0\n' + b'E,9\n' * 8 + b'D,0,0\nE,9\n')

@@ -6,3 +6,4 @@ pub mod make;
 pub mod query;
 pub mod references;
 pub mod remove;
+pub mod report;

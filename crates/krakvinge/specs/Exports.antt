@@ -4,20 +4,22 @@
 --     stateRow, answerRow      the state row and the answer row after a reply; a refused call leaves them as they were
 --     Out          an answer row and a result, by a reply
 --     Exported     THE PATTERN: refusal 1 where the host's own rows don't fit, else the call
---     Inserts, Removes, CleansUp, Queries, ListsAll, ListsLeaves, CountsDots, Batches, Makes, Checks
+--     Inserts, Removes, CleansUp, Queries, ListsAll, ListsLeaves, CountsDots, Reports, Batches, Makes, Checks
 use mathlib.Core.Path.{_≡_}
 use mathlib.Core.List.{List, [], _∷_}
 use mathlib.Core.Bool.{Bool, true, false}
-use Prim.Native.Nat.{ℕ, _+_, _*_}
+use Prim.Native.Nat.{ℕ, _+_, _*_, _/_, _%_}
 use lib.IntN.{ℤ}
 use lib.ListN.{length}
 use Rattle.geometry.specs.declared.aabb.AABB.{AABB}
+use Rattle.grid.specs.declared.grid.Grid.{Grid}
 use Rattle.model.specs.declared.Dot.{Dot}
 use Rattle.model.specs.declared.State.{State}
 use Rattle.model.specs.declared.Window.{Window}
 use Rattle.model.specs.Layout.{World, world}
 use Rattle.model.specs.declared.answers.Found.{Found}
-use Rattle.model.specs.Calls.{Reply, refused, tooMany, answered, refusal, yesNo, Insert, Remove, Cleanup, Query, All, Leaves, References, Make, Batch}
+use Rattle.model.specs.Calls.{Reply, refused, tooMany, answered, refusal, yesNo}
+use Rattle.model.specs.Calls.{Insert, Remove, Cleanup, Query, All, Leaves, References, GridReport, Make, Batch}
 use Rattle.model.specs.declared.answers.MakeAnswer.{MakeAnswer}
 use Rattle.model.specs.Answers.{makeReply, makeState}
 use Rattle.tree_check.specs.Checks.{Checked}
@@ -64,6 +66,10 @@ yesOrNo yes? = yesNo yes? ∷ 0 ∷ []
 abbrev pub hitsOpened : Found → List ℕ
 hitsOpened l = l .hits ∷ l .opened ∷ []
 
+-- §18.8: a number of 64 bits, the low word first
+abbrev pub wide : ℕ → List ℕ
+wide n = n % 4294967296 ∷ n / 4294967296 ∷ []
+
 -- the answer row and what is returned, by the reply
 pub record Out {A : Type 0} (words : A → List ℕ) (reply : Reply A) (row row′ : List ℕ) (result : ℕ) : Type 0 where
   pub answer : row′ ≡ answerRow words row reply
@@ -109,6 +115,12 @@ ListsAll l row l′ row′ result = Exported (rowsFit (l .state) (l .answer)) hi
 
 abbrev pub ListsLeaves : Lent → List ℤ → Lent → List ℤ → ℕ → Type 0
 ListsLeaves l row l′ row′ result = Exported (rowsFit (l .state) (l .answer)) number Leaves l row l′ row′ result
+
+-- the row is the counts'
+abbrev pub Reports : Grid → Lent → List ℕ → Lent → List ℕ → ℕ → Type 0
+Reports g l row l′ row′ result =
+    Exported (rowsFit (l .state) (l .answer)) wide (λ (w : World) (counts : List ℕ) (w′ : World) (counts′ : List ℕ)
+    (reply : Reply ℕ). GridReport w g counts w′ counts′ reply) l row l′ row′ result
 
 -- the row is the answers'; the batch has no answer row beside it
 abbrev pub Batches : List ℕ → Lent → List ℕ → Lent → List ℕ → ℕ → Type 0

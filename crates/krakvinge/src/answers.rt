@@ -2,13 +2,16 @@
 ghost use mathlib.Core.Path.{_≡_};
 ghost use lib.ListN.{length};
 ghost use Rattle.model.specs.Answers.{makeReply, insertReply, insertState, removeReply, removeState, cleanupReply, cleanupState, queryReply};
-ghost use Rattle.model.specs.Answers.{leavesReply, referencesReply};
+ghost use Rattle.model.specs.Answers.{leavesReply, referencesReply, gridReply};
 ghost use Rattle.krakvinge.specs.Rows.{stateIn};
-ghost use Rattle.krakvinge.specs.Exports.{number, yesOrNo, hitsOpened, resultOf, stateRow, madeRow, Out};
+ghost use Rattle.krakvinge.specs.Exports.{number, yesOrNo, hitsOpened, wide, resultOf, stateRow, madeRow, Out};
 use crate::rows::answer_out;
+use crate::rows::high_word;
+use crate::rows::low_word;
 use crate::rows::state_out;
 use crate::rows::too_many;
 use model::answers::CleanupAnswer;
+use model::answers::GridAnswer;
 use model::answers::InsertAnswer;
 use model::answers::LeavesAnswer;
 use model::answers::MakeAnswer;
@@ -122,6 +125,21 @@ pub fn references_out(answer: &mut [u32], done: ReferencesAnswer) -> u64
         ReferencesAnswer::Refused(refusal) => refusal as u64,
         ReferencesAnswer::Count(count) => {
             answer_out(answer, count, 0);
+            0
+        }
+    }
+}
+
+// Of the grid report: the total, its low word first.
+pub fn grid_out(answer: &mut [u32], done: GridAnswer) -> u64
+    requires { ⌜ length (now answer) ≡ 2 ⌝ }
+    ensures { λ r. ⌜ Out wide (gridReply done) (now (answer .entry)) (now (answer .exit)) r ⌝ }
+{
+    match done {
+        GridAnswer::Refused(refusal) => refusal as u64,
+        GridAnswer::TooMany(many) => too_many(many),
+        GridAnswer::Counted(total) => {
+            answer_out(answer, low_word(total), high_word(total));
             0
         }
     }

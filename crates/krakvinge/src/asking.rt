@@ -1,6 +1,7 @@
-// The calls that leave the tree as it is: query, all, leaves, references, and the check alone.
-ghost use Rattle.krakvinge.specs.Rows.{rectOf};
-ghost use Rattle.krakvinge.specs.Exports.{lent, Queries, ListsAll, ListsLeaves, CountsDots, Checks};
+// The calls that leave the tree as it is: query, all, leaves, references, the grid report, and the check alone.
+ghost use Rattle.krakvinge.specs.Rows.{rectOf, gridOf};
+ghost use Rattle.krakvinge.specs.Exports.{lent, Queries, ListsAll, ListsLeaves, CountsDots, Reports, Checks};
+use crate::answers::grid_out;
 use crate::answers::leaves_out;
 use crate::answers::query_out;
 use crate::answers::references_out;
@@ -10,7 +11,9 @@ use calls::leaves::leaves;
 use calls::query::all;
 use calls::query::query;
 use calls::references::references;
+use calls::report::grid_report;
 use geometry::aabb::AABB;
+use grid::grid::Grid;
 use model::Window;
 use tree_check::check::check;
 
@@ -136,4 +139,42 @@ pub extern "C" fn krakvinge_check(
     }
     let before = state_in(state);
     check(before, nodes, dots, rects, marks) as u64
+}
+
+// The counts of a grid's windows; the answer is the total, its low word first.
+#[no_mangle]
+pub extern "C" fn krakvinge_grid(
+    state: &[u32],
+    nodes: &[u32],
+    dots: &[u32],
+    rects: &[i32],
+    marks: &mut [u8],
+    x: i32,
+    y: i32,
+    width: i32,
+    height: i32,
+    columns: i32,
+    rows: i32,
+    counts: &mut [u32],
+    answer: &mut [u32],
+) -> u64
+    ensures { λ r. ⌜ Reports (gridOf x y width height columns rows)
+        (lent (now (state .entry)) (now (nodes .entry)) (now (dots .entry)) (now (rects .entry)) (now (marks .entry)) (now (answer .entry)))
+        (now (counts .entry)) (lent (now (state .exit)) (now (nodes .exit)) (now (dots .exit)) (now (rects .exit)) (now (marks .exit))
+        (now (answer .exit))) (now (counts .exit)) r ⌝ }
+{
+    if !rows_fit(state, answer) {
+        return 1;
+    }
+    let before = state_in(state);
+    let grid = Grid {
+        x,
+        y,
+        width,
+        height,
+        columns,
+        rows,
+    };
+    let done = grid_report(before, nodes, dots, rects, marks, grid, counts);
+    grid_out(answer, done)
 }

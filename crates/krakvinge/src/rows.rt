@@ -1,7 +1,7 @@
 // A state as a row of ten words, an answer as a row of two.
 ghost use mathlib.Core.Path.{_≡_};
 ghost use mathlib.Core.List.{[], _∷_};
-ghost use Prim.Native.Nat.{_+_, _*_};
+ghost use Prim.Native.Nat.{_+_, _*_, _/_, _%_};
 ghost use lib.ListN.{length};
 ghost use Rattle.krakvinge.specs.Rows.{signed, settingsIn, stateIn, rowsFit, withState};
 use geometry::settings::Settings;
@@ -73,6 +73,19 @@ pub fn answer_out(answer: &mut [u32], first: u32, second: u32)
 {
     answer[0] = first;
     answer[1] = second;
+}
+
+// A number of 64 bits as two words, the low one first.
+pub fn low_word(n: u64) -> u32
+    ensures { λ r. ⌜ r ≡ n % 4294967296 ⌝ }
+{
+    (n % 4294967296) as u32
+}
+
+pub fn high_word(n: u64) -> u32
+    ensures { λ r. ⌜ r ≡ n / 4294967296 ⌝ }
+{
+    (n / 4294967296) as u32
 }
 
 // What a call returns that was refused 8.

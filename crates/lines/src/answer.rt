@@ -1,43 +1,13 @@
 // The lines of the answers: a letter, numbers, an LF.
 ghost use mathlib.Core.Path.{_≡_};
-ghost use mathlib.Core.List.{_∷_, [], map};
-ghost use Prim.Native.Nat.{_+_, _*_, _≤_, _<_};
-ghost use lib.IntN.{pos};
+ghost use mathlib.Core.List.{_∷_, []};
+ghost use Prim.Native.Nat.{_+_, _*_, _≤_};
 ghost use lib.ListN.{length, take};
-ghost use Rattle.lines.specs.Text.{fields, answer};
-ghost use Rattle.lines.specs.Reading.{Put, output, Written};
-use crate::number::put_natural;
-
-fn put_byte(out: &mut [u8], at: usize, b: u8) -> usize
-    requires { ⌜ at < length (now out) ⌝ }
-    ensures { λ r. ⌜ Put (now (out .entry)) at (b ∷ []) (now (out .exit)) r ⌝ }
-{
-    out[at] = b;
-    at + 1
-}
-
-// A comma and a number.
-fn put_field(out: &mut [u8], at: usize, n: u32) -> usize
-    requires { ⌜ at + 11 ≤ length (now out) ⌝ }
-    ensures { λ r. ⌜ Put (now (out .entry)) at (fields (pos n ∷ [])) (now (out .exit)) r ⌝ }
-{
-    let from = put_byte(out, at, b',');
-    put_natural(out, from, n)
-}
-
-// The first numbers of a row, each with its comma.
-fn put_fields(out: &mut [u8], at: usize, row: &[u32], count: usize) -> usize
-    requires { ⌜ (count ≤ length (now row)) × (at + 11 * count ≤ length (now out)) ⌝ }
-    ensures { λ r. ⌜ Put (now (out .entry)) at (fields (map pos (take count (now (row .entry))))) (now (out .exit)) r ⌝ }
-{
-    let mut next = at;
-    let mut i = 0;
-    while i < count {
-        next = put_field(out, next, row[i]);
-        i += 1;
-    }
-    next
-}
+ghost use Rattle.lines.specs.Text.{answer};
+ghost use Rattle.lines.specs.Reading.{output, Written};
+use crate::row::put_byte;
+use crate::row::put_field;
+use crate::row::put_fields;
 
 // A line of one number.
 pub fn answer_one(out: &mut [u8], letter: u8, a: u32) -> usize

@@ -17,6 +17,8 @@ use Rattle.model.specs.declared.answers.LeavesAnswer.{LeavesAnswer}
 use Rattle.model.specs.declared.answers.LeavesAnswer.the-variants as leaves
 use Rattle.model.specs.declared.answers.ReferencesAnswer.{ReferencesAnswer}
 use Rattle.model.specs.declared.answers.ReferencesAnswer.the-variants as references
+use Rattle.model.specs.declared.answers.GridAnswer.{GridAnswer}
+use Rattle.model.specs.declared.answers.GridAnswer.the-variants as grid
 use Rattle.model.specs.Calls.{Reply, refused, tooMany, answered}
 
 -- make: nothing beside the state
@@ -73,3 +75,9 @@ leavesReply (leaves.Listed n) = answered n
 abbrev pub referencesReply : ReferencesAnswer → Reply ℕ
 referencesReply (references.Refused k) = refused k
 referencesReply (references.Count n) = answered n
+
+-- the grid report: the total
+abbrev pub gridReply : GridAnswer → Reply ℕ
+gridReply (grid.Refused k) = refused k
+gridReply (grid.TooMany n) = tooMany n
+gridReply (grid.Counted total) = answered total

@@ -3,7 +3,7 @@
 --     Verdict      what a call does once the memory is a tree: refuse, or leave a shape, words in the row and an answer
 --     Exit         what a call leaves: the world, the row, the reply
 --     Obeys        THE PATTERN: for every world, what a call that follows a rule leaves
---     Make, Insert, Remove, Cleanup, Query, Leaves, All, References, Batch
+--     Make, Insert, Remove, Cleanup, Query, Leaves, All, References, GridReport, Batch
 use mathlib.Core.Path.{_≡_}
 use mathlib.Core.List.{List, [], _∷_, _++_}
 use mathlib.Core.Bool.{Bool, true, false, not, cond, _&&_, _||_}
@@ -19,10 +19,13 @@ use Rattle.model.specs.declared.Record.{Record}
 use Rattle.model.specs.declared.answers.Found.{Found}
 use Rattle.geometry.specs.Rectangles.{inverted, farOut}
 use Rattle.geometry.specs.Settings.{rootOf, inRange, contains, rootRect}
+use Rattle.grid.specs.declared.grid.Grid.{Grid}
+use Rattle.grid.specs.Grids.{windows, sizesFit, cornerFits}
 use Rattle.model.specs.Dots.{goodInk, ofAllInks}
 use Rattle.model.specs.Trees.{size}
 use Rattle.model.specs.Shapes.{Shape, fresh, inserted, splitsMade, splitsNeeded, removed, foundBy}
 use Rattle.model.specs.Shapes.{cleaned, cleans, listed, opensFor, leaves, leafNumber, references}
+use Rattle.model.specs.Grid.{gridCounts, gridTotal}
 use Rattle.model.specs.Layout.{World, groupsOf, placesOf, lengthsRight, layout, cleared, Holds}
 
 -- §11.8: a refusal has its number; `tooMany` is refusal 8 with how many answers there are (§11.5)
@@ -107,6 +110,13 @@ allRule room x = queryRule (ofAllInks (rootRect (x .settings))) room x
 unfoldable pub leavesRule : ℕ → Shape → Verdict ℤ ℕ
 leavesRule room x = let n = leafNumber x in cond (ltb room (6 * n)) (overflow n) (accept x (leaves x) n)
 
+-- §19.3, §19.4: refusals 11 and 12, then 8 if there are more windows than words in the row
+unfoldable pub gridRule : Grid → ℕ → Shape → Verdict ℕ ℕ
+gridRule g room x =
+    cond (not (sizesFit g)) (refuse 11)
+    (cond (not (cornerFits g)) (refuse 12)
+    (cond (ltb room (windows g)) (overflow (windows g)) (accept x (gridCounts g x) (gridTotal g x))))
+
 -- ---- the batch
 
 -- §10.4: the word of a yes or no
@@ -170,6 +180,9 @@ Leaves w row w′ row′ reply = Obeys true (leavesRule (length row)) w row (exi
 
 unfoldable pub All : World → List ℕ → World → List ℕ → Reply Found → Type 0
 All w row w′ row′ reply = Obeys true (allRule (length row)) w row (exit w′ row′ reply)
+
+unfoldable pub GridReport : World → Grid → List ℕ → World → List ℕ → Reply ℕ → Type 0
+GridReport w g row w′ row′ reply = Obeys true (gridRule g (length row)) w row (exit w′ row′ reply)
 
 -- §10.1, §10.3: rows of one length; one check, before all records
 unfoldable pub Batch : World → List Record → List ℕ → World → List ℕ → Reply (Unit {0}) → Type 0

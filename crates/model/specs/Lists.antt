@@ -1,5 +1,6 @@
 -- Lists in the order of a walk: joined over the numbers below n, filtered, and what holds of every element.
 --     joinBelow n f    f 0, f 1 .. f (n - 1), one after another
+--     joinOver f xs    f of each element, one after another
 --     filter p xs      the elements with p, in order
 --     All P xs         P of every element
 --     upTo n           0, 1 .. n - 1
@@ -21,6 +22,10 @@ module _ {ℓ} {A : Type ℓ} where
   abbrev pub All : (A → Type 0) → List A → Type 0
   All P [] = Unit {0}
   All P (x ∷ xs) = P x × All P xs
+
+abbrev pub joinOver : {A B : Type 0} → (A → List B) → List A → List B
+joinOver f [] = []
+joinOver f (x ∷ xs) = f x ++ joinOver f xs
 
 abbrev pub upTo : ℕ → List ℕ
 upTo n = joinBelow n (λ k. k ∷ [])

@@ -3,12 +3,13 @@
 --     childNode    the nodes of a group
 --     sumDots, sumGroups   a weight, summed over the dots or the groups; a count is the sum of an indicator
 --     AllDots      what holds of every dot
+--     dots         all dots, in the order of the query's walk
 --     Shallow      how high a tree is at most
 use mathlib.Core.List.{List}
 use Prim.Native.Nat.{ℕ, zero, suc, _+_, _*_, _<_}
 use Rattle.model.specs.declared.Dot.{Dot}
 use Rattle.model.specs.Sums.{indicator, sumOver, sumBelow}
-use Rattle.model.specs.Lists.{All}
+use Rattle.model.specs.Lists.{joinBelow, All}
 
 -- a dot with the place where it stands
 pub record Placed : Type 0 where
@@ -48,6 +49,11 @@ size t = sumDots (λ d. 1) t
 abbrev pub AllDots : (Placed → Type 0) → Tree → Type 0
 AllDots P (leaf chain) = All P chain
 AllDots P (branch g f) = (i : ℕ) → i < 5 → AllDots P (f i)
+
+-- every child is walked, child 0 first
+abbrev pub dots : Tree → List Placed
+dots (leaf chain) = chain
+dots (branch g f) = joinBelow 5 (λ i. dots (f i))
 
 -- a tree at most n branches high
 abbrev pub Shallow : ℕ → Tree → Type 0

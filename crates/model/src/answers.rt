@@ -51,3 +51,10 @@ pub enum ReferencesAnswer {
     Refused(u32),
     Count(u32),
 }
+
+// Refusal 8, with how many windows there are; or the total, and the row now begins with the counts.
+pub enum GridAnswer {
+    Refused(u32),
+    TooMany(u32),
+    Counted(u64),
+}

@@ -1,6 +1,6 @@
 -- What the single operations, which make no check, ask and leave.
 --     IsTree       the words are those of a tree, whatever the marks
---     HasTree      the nodes are, with some dots
+--     HasTree, HasRects    the nodes are, with some dots; the rectangles are, with some nodes and ids
 --     CarriedOut   what an operation that follows a rule leaves
 use mathlib.Core.Path.{_≡_}
 use mathlib.Core.List.{List, []}
@@ -21,6 +21,12 @@ pub record IsTree (s : State) (nodes dots : List ℕ) (rects : List ℤ) : Type 
 pub record HasTree (s : State) (nodes : List ℕ) : Type 0 where
   pub dots : List ℕ
   pub rects : List ℤ
+  pub tree : IsTree s nodes dots rects
+
+-- the rectangles are those of a tree, with some nodes, ids and inks
+pub record HasRects (s : State) (rects : List ℤ) : Type 0 where
+  pub nodes : List ℕ
+  pub dots : List ℕ
   pub tree : IsTree s nodes dots rects
 
 -- for every marks and every shape that the words hold

@@ -1,7 +1,7 @@
 -- Each call obeys its statement: a refusal of the check is handed back, else the operation without the check says what is left.
 --     insert-refused, insert-answered; remove-refused, remove-answered; cleanup-refused, cleanup-answered
 --     query-refused, query-answered; all-refused, all-answered; leaves-refused, leaves-answered
---     references-refused, references-counted
+--     references-refused, references-counted; grid-refused, grid-answered
 use mathlib.Core.Path.{_≡_, ap, _∙_, subst}
 use mathlib.Core.List.{List, []}
 use mathlib.Core.Bool.{Bool}
@@ -10,6 +10,7 @@ use lib.IntN.{ℤ}
 use lib.ListN.{length}
 use Rattle.geometry.specs.declared.aabb.AABB.{AABB}
 use Rattle.geometry.specs.Settings.{rootRect}
+use Rattle.grid.specs.declared.grid.Grid.{Grid}
 use Rattle.model.specs.declared.Dot.{Dot}
 use Rattle.model.specs.declared.Window.{Window}
 use Rattle.model.specs.declared.State.{State}
@@ -19,13 +20,14 @@ use Rattle.model.specs.Dots.{ofAllInks}
 use Rattle.model.specs.Shapes.{references}
 use Rattle.model.specs.Layout.{world, cleared}
 use Rattle.model.specs.Answers.{cleanupReply, cleanupState}
-use Rattle.model.specs.Calls.{Reply, refused, answered, exit, Query, All, Leaves, References, Insert, Remove, Cleanup}
-use Rattle.model.specs.Calls.{queryRule, leavesRule, referencesRule, insertRule, removeRule, cleanupRule}
+use Rattle.model.specs.Calls.{Reply, refused, answered, exit, Query, All, Leaves, References, GridReport, Insert, Remove, Cleanup}
+use Rattle.model.specs.Calls.{queryRule, leavesRule, referencesRule, gridRule, insertRule, removeRule, cleanupRule}
 use Rattle.model.specs.Laws.Listing.{all-query}
 use Rattle.model.specs.Laws.Memory.{holds-represented}
 use Rattle.tree_check.specs.Checks.{Checked}
 use Rattle.tree.specs.Operations.{CarriedOut}
 use Rattle.tree_query.specs.Answers.{Queried, LeavesListed}
+use Rattle.tree_grid.specs.Answers.{Reported}
 use Rattle.tree_cleanup.specs.Answers.{CleanedUp}
 use Rattle.calls.specs.Laws.Pattern.{call-refused, call-carried}
 
@@ -96,6 +98,16 @@ module _ {s : State} {nodes dots : List ℕ} {rects : List ℤ} {marks marks′ 
         → Leaves (world s nodes dots rects marks) row (world s nodes dots rects marks′) row′ reply
     unfolding Leaves LeavesListed
     leaves-answered z row′ reply done = call-carried c (leavesRule (length row)) row z (done dots rects)
+
+  module _ (g : Grid) (row : List ℕ) where
+    pub grid-refused : (refusal ≡ 0 → ⊥) → GridReport (world s nodes dots rects marks) g row (world s nodes dots rects marks′) row (refused refusal)
+    unfolding GridReport
+    grid-refused ne = call-refused c (gridRule g (length row)) row ne
+
+    pub grid-answered : refusal ≡ 0 → (row′ : List ℕ) (reply : Reply ℕ) → Reported s rects g row row′ reply
+        → GridReport (world s nodes dots rects marks) g row (world s nodes dots rects marks′) row′ reply
+    unfolding GridReport Reported
+    grid-answered z row′ reply done = call-carried c (gridRule g (length row)) row z (done nodes dots)
 
   pub references-refused : (refusal ≡ 0 → ⊥) → References (world s nodes dots rects marks) (world s nodes dots rects marks′) (refused refusal)
   unfolding References

@@ -11,9 +11,9 @@ use lib.Signed.{ltZ, leZ}
 use lib.Dec.{eqb, leb}
 use borrow.Author.Tests.{ne-eqb, not-false}
 use Rattle.arithmetic.specs.Ints.{maxZ, minZ}
-use Rattle.arithmetic.specs.Laws.Tests.{byBool, true-false}
+use Rattle.arithmetic.specs.Laws.Tests.{byBool}
 use Rattle.arithmetic.specs.Laws.Cases.{all-four, sameBool, same-bool}
-use Rattle.arithmetic.specs.Laws.Linear.{ints, and-t}
+use Rattle.arithmetic.specs.Laws.Linear.{ints, and-t, or-f}
 use Rattle.geometry.specs.declared.aabb.AABB.{AABB}
 use Rattle.geometry.specs.declared.centered_aabb.CenteredAABB.{CenteredAABB}
 use Rattle.geometry.specs.declared.bounds.Bounds.{Bounds}
@@ -97,10 +97,6 @@ side-not false centre first second = le-not centre second
 one-side : (centre first second : ℤ) → ltZ second first ≡ false → leZ first centre || ltZ centre second ≡ true
 one-side centre first second e =
     byBool (leZ first centre) (λ h. rw h refl) (λ h. let k : ltZ centre second ≡ true = omega (arith, ints) in rw (h, k) refl)
-
-or-f : (s t : Bool) → s || t ≡ false → (s ≡ false) × (t ≡ false)
-or-f true t e = true-false e
-or-f false t e = (refl, e)
 
 pub bounds-below : (b : Bounds) (c : CenteredAABB) (i : ℕ) → 1 ≤ i → i < 5 → (r : AABB) → inverted r ≡ false
     → inBounds (boundsBelow b c i) r ≡ inBounds b r && eqb (routeCell c r) i

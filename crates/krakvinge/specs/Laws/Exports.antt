@@ -17,7 +17,7 @@ use Rattle.model.specs.Layout.{World, world}
 use Rattle.model.specs.Calls.{Reply, Make}
 use Rattle.tree_check.specs.Checks.{Checked}
 use Rattle.krakvinge.specs.Rows.{settingsIn, stateIn}
-use Rattle.krakvinge.specs.Exports.{Lent, lent, worldOf, resultOf, stateRow, Out, Exported, madeRow, Makes, Checks}
+use Rattle.krakvinge.specs.Exports.{Lent, worldOf, resultOf, stateRow, Out, Exported, madeRow, Makes, Checks}
 use Rattle.krakvinge.specs.Laws.Rows.{unfit, fit, kept-row}
 
 module _ {B A : Type 0} {fits : Bool} {words : A → List ℕ} {says : World → List B → World → List B → Reply A → Type 0} where

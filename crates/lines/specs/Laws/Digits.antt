@@ -1,6 +1,6 @@
 -- Laws of decimal text.
 --     digits-none, digits-few, digits-more     the three cases of printing
---     digits-length, digits-some               how many there are
+--     digits-length, digits-some, decimal-two  how many there are; two at most of a number below 100
 --     digits-plain                             each byte is a digit's code or above
 --     digits-value                             added up, the digits give the number
 --     natural-part                             a part is read exactly if it is a number's text
@@ -18,7 +18,7 @@ use lib.IntN.{ℤ, pos, negsuc, negℤ, natAbs}
 use lib.Dec.{ltb, leb}
 use lib.ListN.{length, take, drop, getD, length-append, length-drop, drop-of-length-le}
 use lib.Seq.{drop-cons, take-all}
-use borrow.Author.Tests.{ltb-true, lt-ltb, le-ltb, le-leb, leb-true}
+use borrow.Author.Tests.{ltb-true, ltb-false, lt-ltb, le-ltb, le-leb, leb-true}
 use Rattle.arithmetic.specs.Laws.Tests.{byBool, true-false}
 use Rattle.arithmetic.specs.Laws.Linear.{and-t}
 use Rattle.lines.specs.Text.{digits, decimal, number, u32, i32, Within}
@@ -52,6 +52,13 @@ unfolding digits
 digits-some k n e =
     byBool (ltb n 10) (λ t. omega (arith, ap length (rw t at e)))
     (λ f. omega (arith, simp length-append at (ap length (rw f at e))))
+
+pub decimal-two : (n : ℕ) → n < 100 → length (decimal n) ≤ 2
+decimal-two n h =
+    byBool (ltb n 10) (λ t. omega (arith, ap length (digits-few 10 n (λ e. omega arith) (ltb-true n 10 t))))
+    (λ f. let all = ap length (digits-more 10 n (λ e. omega arith) (ltb-false n 10 f)) in
+    let front = ap length (digits-few 9 (n / 10) (λ e. omega arith) (omega arith)) in
+    omega (arith, all, length-append (digits 9 (n / 10)) ((48 + n % 10) ∷ []), front))
 
 -- each byte is at least the code of 0
 abbrev pub Plain : List ℕ → Type 0

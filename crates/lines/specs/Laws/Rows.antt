@@ -1,12 +1,13 @@
 -- Laws of bytes put into a row.
 --     put-none, put-byte, put-then, put-is              nothing, a byte, one thing after another, the same bytes by another name
 --     put-count                                         how long the bytes at a row's front are
+--     put-next, put-all                                 a row's next byte, and every byte of it
 --     digits-end, put-no-digits, put-digit, put-last-digit     a number's digits, by the three cases of printing
 --     put-field, field-ends                             a field, and where it ends at most
 --     put-nothing, put-more, field-then, fields-end     no number of a row, one more, a field and the others, where they end at most
 --     fields-same                                       the fields of the same numbers
 --     take-beyond                                       a row, taken further than it goes
---     written                                           an answer's line: its letter, its fields, its LF
+--     written-all, written                              bytes at a row's front; an answer's line: its letter, its fields, its LF
 --     written-fixed                                     what is written fixes every byte of the row
 use mathlib.Core.Path.{_≡_, refl, ap, ap₂, sym, subst, _∙_}
 use mathlib.Core.List.{List, [], _∷_, _++_, map, append-assoc, append-nil}
@@ -44,6 +45,15 @@ put-is {row₀} {row} {at} {next} e p = subst (λ (l : List ℕ). Put row₀ at 
 -- what stands at the front of a row is as long as it says
 pub put-count : {row₀ row bs : List ℕ} {next : ℕ} → Put row₀ 0 bs row next → next ≡ length (take next row)
 put-count p = omega (arith, p .ends, ap length (p .holds))
+
+-- the next byte of bytes that are put one by one
+pub put-next : {out₀ out out′ : List ℕ} {at next next′ : ℕ} (bytes : List ℕ) (i : ℕ) → i < length bytes → Put out₀ at (take i bytes) out next
+    → Put out next (getD bytes i 0 ∷ []) out′ next′ → Put out₀ at (take (i + 1) bytes) out′ next′
+put-next bytes i h p q = rw add-one (put-is (sym (take-suc bytes i 0 h)) (put-then p q))
+
+pub put-all : {out₀ out : List ℕ} {at next : ℕ} (bytes : List ℕ) (i : ℕ) → length bytes ≤ i → Put out₀ at (take i bytes) out next
+    → Put out₀ at bytes out next
+put-all bytes i h p = put-is (take-all i bytes h) p
 
 -- ---- digits
 
@@ -116,17 +126,20 @@ put-more row i count below within p q =
 pub take-beyond : (row : List ℕ) (n : ℕ) → length row < n → take (length row) row ≡ take n row
 take-beyond row n h = take-length row ∙ sym (take-all n row (omega arith))
 
+-- bytes put at a row's front
+pub written-all : {row₀ row bs : List ℕ} {next : ℕ} → Put row₀ 0 bs row next → Written (output row₀ row next) bs
+written-all {row = row} {next = next} p = record {
+  ends = omega (arith, p .ends);
+  within = omega (arith, p .ends, length-take next row, ap length (p .holds));
+  holds = sym (take-append-drop next row) ∙ ap₂ (λ (front rest : List ℕ). front ++ rest) (p .holds) (p .kept);
+}
+
 -- a line from its letter, its fields and its LF
 pub written : {out₀ out out′ out″ : List ℕ} {first end next : ℕ} (letter : ℕ) (ns : List ℕ) → Put out₀ 0 (letter ∷ []) out first
     → Put out first (fields (map pos ns)) out′ end → Put out′ end (10 ∷ []) out″ next
     → Written (output out₀ out″ next) (answer letter ns)
 unfolding answer
-written {out″ = out″} {next = next} letter ns p q r =
-    let whole = put-then p (put-then q r) in record {
-      ends = omega (arith, whole .ends);
-      within = omega (arith, whole .ends, length-take next out″, ap length (whole .holds));
-      holds = sym (take-append-drop next out″) ∙ ap₂ (λ (front rest : List ℕ). front ++ rest) (whole .holds) (whole .kept);
-    }
+written letter ns p q r = written-all (put-then p (put-then q r))
 
 -- two rows that were one, with the same bytes written
 pub written-fixed : (o p : Output) (bytes : List ℕ) → o .before ≡ p .before → Written o bytes → Written p bytes → o ≡ p

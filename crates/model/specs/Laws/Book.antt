@@ -19,8 +19,8 @@ use Rattle.model.specs.Lists.{All}
 use Rattle.model.specs.Laws.Sums.{indicator-same, indicator-other, byDec}
 use Rattle.model.specs.Laws.Lists.{filter-le, sum-filter}
 use Rattle.model.specs.Dots.{isHit}
-use Rattle.model.specs.Trees.{Placed, Tree, sumDots}
-use Rattle.model.specs.Laws.Trees.{dots, sumDots-dots}
+use Rattle.model.specs.Trees.{Placed, Tree, sumDots, dots}
+use Rattle.model.specs.Laws.Trees.{sumDots-dots}
 use Rattle.model.specs.Book.{Event, insert, remove, cleanup, query, accepted, saidYes, without, entered, bookAfter, Has, Live, meeting}
 use Rattle.model.specs.Laws.Dots.{onDot, idIs, dotIs, sameRect-same}
 

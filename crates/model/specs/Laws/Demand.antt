@@ -3,6 +3,7 @@
 --     Inv, step-inv, run-inv       the invariant, kept by a call and by a list of calls
 --     quiet-run    what quiet calls keep, and what D cleanups among them bring about
 --     inv-promise, demand-3
+--     run-book     after a list the tree's dots are the book's, for every weight
 --     book-inks    the book's dots have inks from 0 to 15
 use mathlib.Core.Path.{_≡_, refl, ap, ap₂, sym, _∙_, subst}
 use mathlib.Core.Logic.{⊎-elim}
@@ -25,8 +26,8 @@ use Rattle.model.specs.declared.Dot.{Dot}
 use Rattle.model.specs.declared.Window.{Window}
 use Rattle.model.specs.Dots.{goodInk, isHit}
 use Rattle.geometry.specs.Settings.{D}
-use Rattle.model.specs.Trees.{Placed, sumDots, size}
-use Rattle.model.specs.Laws.Trees.{dots, allDots-dots, sumDots-dots}
+use Rattle.model.specs.Trees.{Placed, sumDots, size, dots}
+use Rattle.model.specs.Laws.Trees.{allDots-dots, sumDots-dots}
 use Rattle.model.specs.Query.{hits}
 use Rattle.model.specs.Cleanup.{isZero, turned}
 use Rattle.model.specs.Remove.{removeSays, removeAt}
@@ -331,6 +332,15 @@ pub demand-3 : Demand3
 unfolding Demand3
 demand-3 lent s start m es w run d = inv-promise s w (book es) (run-inv s start [] es w (made-inv lent s start m) run d)
 
+-- ---- the book and the tree
+
+-- after a list the tree's dots are the book's, for every weight
+pub run-book : (lent : World) (s : Settings) (start : World) → Make lent s start (answered tt)
+    → (es : List Event) (w : World) → Run start es w → Distinct es
+    → (x : Shape) × Holds w x × ((h : Dot → ℕ) → sumDots (onDot h) (x .tree) ≡ sumOver h (book es))
+run-book lent s start m es w run distinct =
+    let I = run-inv s start [] es w (made-inv lent s start m) run distinct in (I .x, I .holds, I .same)
+
 -- ---- the book's inks
 
 -- 1 at a dot whose ink is none of the sixteen
@@ -340,10 +350,10 @@ badInk d = cond (goodInk d) 0 1
 pub book-inks : (lent : World) (s : Settings) (start : World) → Make lent s start (answered tt)
     → (es : List Event) (w : World) → Run start es w → Distinct es → (d : Dot) → Has d (book es) → goodInk d ≡ true
 book-inks lent s start m es w run distinct d has =
-    let I = run-inv s start [] es w (made-inv lent s start m) run distinct in
-    let x = I .x in
+    let kept = run-book lent s start m es w run distinct in
+    let x = kept .0 in
     let good = all-map (λ e. goodInk (e .dot) ≡ true) (λ e. onDot badInk e ≡ 0) (λ e g. rw g refl) (dots (x .tree))
-    (allDots-dots (λ e. goodInk (e .dot) ≡ true) (x .tree) (good-inks x (I .holds .valid))) in
+    (allDots-dots (λ e. goodInk (e .dot) ≡ true) (x .tree) (good-inks x (kept .1 .valid))) in
     let none : sumOver badInk (book es) ≡ 0 =
-    sym (I .same badInk) ∙ sym (sumDots-dots (onDot badInk) (x .tree)) ∙ sumOver-zero (onDot badInk) (dots (x .tree)) good in
+    sym (kept .2 badInk) ∙ sym (sumDots-dots (onDot badInk) (x .tree)) ∙ sumOver-zero (onDot badInk) (dots (x .tree)) good in
     byBool (goodInk d) (λ e. e) (λ e. absurd (omega (arith, none, has-sum badInk d (book es) (rw e refl) has)))

@@ -1,7 +1,7 @@
 -- Demand 1 along a run: what each of its calls keeps.
 --     Kept         a call is not refused 1, 2 or 3; if refused it leaves state, nodes, dots, rects and its row as they were; the marks are 0 after it
 --     run-kept     every call of a run from a tree
-use mathlib.Core.Path.{_≡_, sym, _∙_}
+use mathlib.Core.Path.{_≡_, _∙_}
 use mathlib.Core.Logic.{inl, ⊎-elim}
 use mathlib.Core.List.{List, [], _∷_}
 use mathlib.Core.Bool.{true}

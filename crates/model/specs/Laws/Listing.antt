@@ -16,8 +16,8 @@ use Rattle.model.specs.Laws.Sums.{sumOver-one, sumOver-map}
 use Rattle.model.specs.Laws.Lists.{filter-le}
 use Rattle.model.specs.declared.Window.{Window}
 use Rattle.model.specs.Dots.{ofAllInks, isHit}
-use Rattle.model.specs.Trees.{Placed, atPlace, size, sumDots}
-use Rattle.model.specs.Laws.Trees.{dots, sumDots-dots}
+use Rattle.model.specs.Trees.{Placed, atPlace, size, sumDots, dots}
+use Rattle.model.specs.Laws.Trees.{sumDots-dots}
 use Rattle.model.specs.Query.{hits}
 use Rattle.model.specs.Shapes.{Shape, Valid, root, listed, references}
 use Rattle.model.specs.Layout.{World, Holds}

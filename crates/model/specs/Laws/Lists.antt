@@ -2,10 +2,11 @@
 --     joinBelow-ext, length-joinBelow, length-join, length-upTo    lists joined
 --     filter-append, filter-none, filter-ext, filter-twice, filter-joinBelow, filter-le, sum-filter    lists filtered
 --     all-map, all-append, all-joinBelow       what holds of every element
---     sumOver-joinBelow, sumOver-zero      a sum over a joined list; over one with the weight 0 throughout
+--     sumOver-joinBelow, sumOver-joinOver, sumOver-zero, sumOver-all       a sum over a joined list; weights that are 0, or agree, throughout
+--     joinOver-append, joinOver-joinBelow      lists joined over a joined list
 --     map-append, length-map
 use mathlib.Core.Path.{_≡_, refl, ap, ap₂, sym, _∙_}
-use mathlib.Core.List.{List, [], _∷_, _++_, map}
+use mathlib.Core.List.{List, [], _∷_, _++_, map, append-assoc}
 use mathlib.Core.Bool.{Bool, true, false, cond, _&&_}
 use Prim.Native.Nat.{ℕ, zero, suc, _*_, _≤_, _<_}
 use native.Mathlib.Nat.{le-refl, zero-mul, suc-mul}
@@ -13,7 +14,7 @@ use native.Mathlib.Omega.{arith}
 use lib.ListN.{length, length-append}
 use Rattle.arithmetic.specs.Laws.Tests.{byBool}
 use Rattle.model.specs.Sums.{sumOver, sumBelow}
-use Rattle.model.specs.Lists.{joinBelow, filter, All, upTo}
+use Rattle.model.specs.Lists.{joinBelow, joinOver, filter, All, upTo}
 use Rattle.model.specs.Laws.Sums.{sumOver-append}
 
 module _ {ℓ} {A : Type ℓ} where
@@ -66,6 +67,11 @@ module _ {ℓ} {A : Type ℓ} where
   sumOver-zero h [] a = refl
   sumOver-zero h (x ∷ xs) a = omega (arith, a .0, sumOver-zero h xs (a .1))
 
+  -- two weights that agree on what holds of every element
+  pub sumOver-all : {P : A → Type 0} (h k : A → ℕ) (xs : List A) → ((x : A) → P x → h x ≡ k x) → All P xs → sumOver h xs ≡ sumOver k xs
+  sumOver-all h k [] e a = refl
+  sumOver-all h k (x ∷ xs) e a = omega (arith, e x (a .0), sumOver-all h k xs e (a .1))
+
   pub filter-le : (h : A → ℕ) (p : A → Bool) (xs : List A) → sumOver h (filter p xs) ≤ sumOver h xs
   filter-le h p [] = omega arith
   filter-le h p (x ∷ xs) = byBool (p x) (λ e. rw e (omega (arith, filter-le h p xs))) (λ e. rw e (omega (arith, filter-le h p xs)))
@@ -77,6 +83,20 @@ module _ {ℓ} {A : Type ℓ} where
 pub map-append : {A B : Type 0} (f : A → B) (xs ys : List A) → map f (xs ++ ys) ≡ map f xs ++ map f ys
 map-append f [] ys = refl
 map-append f (x ∷ xs) ys = ap (λ r. f x ∷ r) (map-append f xs ys)
+
+pub sumOver-joinOver : {A B : Type 0} (h : B → ℕ) (f : A → List B) (xs : List A) → sumOver h (joinOver f xs) ≡ sumOver (λ a. sumOver h (f a)) xs
+sumOver-joinOver h f [] = refl
+sumOver-joinOver h f (x ∷ xs) = omega (arith, sumOver-append h (f x) (joinOver f xs), sumOver-joinOver h f xs)
+
+pub joinOver-append : {A B : Type 0} (h : A → List B) (xs ys : List A) → joinOver h (xs ++ ys) ≡ joinOver h xs ++ joinOver h ys
+joinOver-append h [] ys = refl
+joinOver-append {B = B} h (x ∷ xs) ys =
+    ap (λ (r : List B). h x ++ r) (joinOver-append h xs ys) ∙ sym (append-assoc (h x) (joinOver h xs) (joinOver h ys))
+
+pub joinOver-joinBelow : {A B : Type 0} (h : A → List B) (n : ℕ) (f : ℕ → List A) → joinOver h (joinBelow n f) ≡ joinBelow n (λ i. joinOver h (f i))
+joinOver-joinBelow h zero f = refl
+joinOver-joinBelow {B = B} h (suc n) f =
+    joinOver-append h (joinBelow n f) (f n) ∙ ap (λ (r : List B). r ++ joinOver h (f n)) (joinOver-joinBelow h n f)
 
 pub length-map : {A B : Type 0} (f : A → B) (xs : List A) → length (map f xs) ≡ length xs
 length-map f [] = refl

@@ -3,12 +3,13 @@
 --     holds-one    two shapes of one world are equal
 --     obeys-fixed, make-fixed      two exits of one call are equal
 --     by-tree      a call on a tree: one shape tells what it leaves
+--     answered-tree        what is true of every tree that an accepted call can have been made on
 --     marks-cleared        the marks are 0 after each call not refused 1 or 2
 --     refused-untouched    a refused call leaves state, nodes, dots and answers untouched (§11.7)
 use mathlib.Core.Path.{_≡_, refl, ap, ap₂, sym, _∙_, subst, fun-ext}
 use mathlib.Core.Logic.{_≢_, _⊎_, ⊎-elim}
 use mathlib.Core.List.{List, [], _∷_, map}
-use mathlib.Core.Bool.{Bool, true, _&&_}
+use mathlib.Core.Bool.{Bool, true, false, _&&_}
 use Prim.Native.Nat.{ℕ, _+_, _≤_, _<_}
 use native.Mathlib.Nat.{suc-inj}
 use native.Mathlib.Decide.{decLt}
@@ -25,7 +26,7 @@ use Rattle.model.specs.Laws.Shapes.{below-no, live-and-free}
 use Rattle.model.specs.Memory.{Mem, memory, Chained, Represents, FreeGroups}
 use Rattle.geometry.specs.declared.settings.Settings.{Settings}
 use Rattle.geometry.specs.Settings.{inRange}
-use Rattle.model.specs.Calls.{Reply, refused, tooMany, refusal, Verdict, refuse, overflow, accept, Exit, exit, carriedOut, Obeys, Make}
+use Rattle.model.specs.Calls.{Reply, refused, tooMany, answered, refusal, Verdict, refuse, overflow, accept, Exit, exit, carriedOut, Obeys, Make}
 use Rattle.model.specs.Laws.Memory.{holds-represented}
 
 placed-equal : (d e : Placed) → d .place ≡ e .place → d .dot ≡ e .dot → d ≡ e
@@ -151,6 +152,28 @@ module _ {B A : Type 0} (fits : Bool) (rule : Shape → Verdict B A) (w : World)
         noTree = λ _ _ n. absurd (n x h);
         tree = λ _ _ y k. p ∙ ap (λ (z : Shape). carriedOut w row (rule z)) (holds-one w x y h k);
       }
+
+-- an accepted call was made on a tree
+abbrev isAnswered : {A : Type 0} → Reply A → Bool
+isAnswered (refused k) = false
+isAnswered (tooMany n) = false
+isAnswered (answered a) = true
+
+module _ {B A : Type 0} (rule : Shape → Verdict B A) (w : World) (row : List B) (w′ : World) (row′ : List B) (a : A) where
+  not-refused : {v : World} {row″ : List B} {k : ℕ} {X : Type 0} → exit w′ row′ (answered a) ≡ exit v row″ (refused k) → X
+  not-refused e = true-false (ap (λ (f : Exit B A). isAnswered (f .reply)) e)
+
+  pub answered-tree : Obeys true rule w row (exit w′ row′ (answered a)) → (test : Bool)
+      → ((x : Shape) → Holds w x → exit w′ row′ (answered a) ≡ carriedOut w row (rule x) → test ≡ true) → test ≡ true
+  answered-tree o test holds =
+      byBool test (λ e. e)
+      (λ no.
+      byBool (lengthsRight w && true)
+      (λ l.
+      byBool (inRange (w .state .settings))
+      (λ s. not-refused (o .noTree l s (λ x h. true-false (sym (holds x h (o .tree l s x h)) ∙ no))))
+      (λ s. not-refused (o .badSettings l s)))
+      (λ l. not-refused (o .badLength l)))
 
 -- §11.7: a refused call keeps state, nodes, dots, rects and its row
 pub record Untouched {B A : Type 0} (w : World) (row : List B) (e : Exit B A) : Type 0 where

@@ -18,8 +18,8 @@ use Rattle.model.specs.Laws.Sums.{sumOver-one, sumBelow-mul, sumBelow-ex
 use Rattle.model.specs.Lists.{filter}
 use Rattle.model.specs.Laws.Lists.{length-join, all-map, joinBelow-ext, filter-none, filter-joinBelow}
 use Rattle.arithmetic.specs.Laws.Tests.{byBool, true-false}
-use Rattle.model.specs.Trees.{Placed, Tree, leaf, branch, sumGroups, AllDots, Shallow, size}
-use Rattle.model.specs.Laws.Trees.{dots, allDots-dots}
+use Rattle.model.specs.Trees.{Placed, Tree, leaf, branch, sumGroups, AllDots, Shallow, size, dots}
+use Rattle.model.specs.Laws.Trees.{allDots-dots}
 use Rattle.model.specs.Insert.{routeDot}
 use Rattle.model.specs.declared.Window.{Window}
 use Rattle.model.specs.Dots.{isHit}

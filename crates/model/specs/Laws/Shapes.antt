@@ -1,17 +1,18 @@
 -- Every call keeps a shape valid.
 --     distinct-length      distinct numbers below n are at most n
---     once-length  a list that has each number below n once has n elements
---     live-and-free        live dots and free places together are N
+--     once-sum, once-length        a list that has each number below n once: weights over it, and its length
+--     places-weigh, live-and-free  live dots and free places together are all places, and N
 --     valid-height, child-0-leaf, shape-routed     a valid tree is at most D high; its children 0 are leaves; its dots stand where they route to
 --     well-acceptable, good-inks   all its dots are acceptable, so their inks are from 0 to 15
 --     fresh-valid, inserted-valid, removed-valid, cleaned-valid
 use mathlib.Core.Path.{_≡_, refl, ap, sym, _∙_}
 use mathlib.Core.List.{List, [], _∷_, _++_, map}
 use mathlib.Core.Bool.{true, _&&_}
-use Prim.Native.Nat.{ℕ, zero, suc, _+_, _≤_, _<_}
+use Prim.Native.Nat.{ℕ, zero, suc, _+_, _*_, _≤_, _<_}
+use native.Mathlib.Nat.{mul-zero, mul-one}
 use native.Mathlib.Decide.{ℕ-discrete, decLt}
 use native.Mathlib.Omega.{arith}
-use lib.ListN.{length, length-append}
+use lib.ListN.{length}
 use lib.Dec.{leb, ltb}
 use lib.IntN.{pos}
 use Rattle.arithmetic.specs.Laws.Linear.{and-t}
@@ -19,7 +20,7 @@ use Rattle.geometry.specs.declared.aabb.AABB.{AABB}
 use Rattle.geometry.specs.declared.settings.Settings.{Settings}
 use Rattle.model.specs.Sums.{indicator, sumOver, sumBelow}
 use Rattle.model.specs.Laws.Sums.{indicator-same, indicator-other, sumOver-append, sumOver-one, sumOver-map, sumBelow-ext}
-use Rattle.model.specs.Laws.Sums.{sumBelow-le, sumBelow-add, sumBelow-zero, sumBelow-only, byDec}
+use Rattle.model.specs.Laws.Sums.{sumOver-mul, sumBelow-le, sumBelow-one, sumBelow-only, sumBelow-swap, byDec}
 use Rattle.model.specs.Lists.{upTo, count}
 use Rattle.arithmetic.specs.Laws.Tests.{byBool, true-false}
 use Rattle.geometry.specs.Settings.{rootFits, between, inRange, D, acceptable}
@@ -27,8 +28,8 @@ use Rattle.model.specs.declared.Dot.{Dot}
 use Rattle.model.specs.Dots.{goodInk, acceptableDot}
 use Rattle.geometry.specs.declared.node_data.NodeData.{NodeData}
 use Rattle.geometry.specs.Cells.{mayDivide, rootData, childData}
-use Rattle.model.specs.Trees.{Placed, Tree, leaf, branch, atPlace, size, AllDots, Shallow}
-use Rattle.model.specs.Laws.Trees.{dots, sumDots-dots, allDots-map}
+use Rattle.model.specs.Trees.{Placed, Tree, leaf, branch, atPlace, size, sumDots, AllDots, Shallow, dots}
+use Rattle.model.specs.Laws.Trees.{sumDots-dots, allDots-map}
 use Rattle.model.specs.Shapes.{Shape, Valid, WellFormed, below, fresh, inserted, splitsNeeded, removed, foundBy, cleaned, headOf, tailOf, root, placedIn}
 use borrow.Author.Tests.{leb-true, lt-ltb, le-ltb}
 use Rattle.geometry.specs.Laws.Geometry.{levels-root}
@@ -63,55 +64,64 @@ count-upTo k (suc n) =
     (λ l. omega (arith, a, count-upTo k n, below-yes k n l, below-yes k (suc n) (omega arith), indicator-other k n ne))
     (λ g. omega (arith, a, count-upTo k n, below-no k n (omega arith), below-no k (suc n) (omega arith), indicator-other k n ne)))
 
-sum-swap : (n : ℕ) (ps : List ℕ) → sumBelow n (λ k. count k ps) ≡ sumOver (λ p. sumBelow n (λ k. indicator k p)) ps
-sum-swap n [] = sumBelow-zero n (λ k. 0) (λ j b. refl)
-sum-swap n (p ∷ ps) = sumBelow-add n (λ k. indicator k p) (λ k. count k ps) ∙ ap (λ (y : ℕ). sumBelow n (λ k. indicator k p) + y) (sum-swap n ps)
+-- numbers below n: a weight over a list of them, gathered by the numbers
+gathered : (n : ℕ) (f : ℕ → ℕ) (ps : List ℕ) → ((k : ℕ) → n ≤ k → count k ps ≡ 0) → sumOver f ps ≡ sumBelow n (λ k. f k * count k ps)
+gathered n f ps z =
+    each ps z
+    ∙ sym (sumBelow-swap n (λ k p. f k * indicator k p) ps)
+    ∙ sumBelow-ext n (λ k. sumOver (λ p. f k * indicator k p) ps) (λ k. f k * count k ps) (λ k b. sumOver-mul (f k) (indicator k) ps)
+  where
+    each : (qs : List ℕ) → ((k : ℕ) → n ≤ k → count k qs ≡ 0) → sumOver f qs ≡ sumOver (λ p. sumBelow n (λ k. f k * indicator k p)) qs
+    each [] none = refl
+    each (q ∷ qs) none =
+        let b : q < n = byDec (decLt q n) (λ h. h) (λ h. absurd (omega (arith, none q (omega arith), indicator-same q))) in
+        let only : sumBelow n (λ k. f k * indicator k q) ≡ f q * indicator q q =
+        sumBelow-only n (λ k. f k * indicator k q) q b (λ j jb ne. ap (λ (y : ℕ). f j * y) (indicator-other j q ne) ∙ mul-zero (f j)) in
+        let own : f q * indicator q q ≡ f q = ap (λ (y : ℕ). f q * y) (indicator-same q) ∙ mul-one (f q) in
+        omega (arith, only, own, each qs (λ k h. omega (arith, none k h)))
 
-sum-ones : (n : ℕ) (ps : List ℕ) → ((k : ℕ) → n ≤ k → count k ps ≡ 0) → sumOver (λ p. sumBelow n (λ k. indicator k p)) ps ≡ length ps
-sum-ones n [] z = refl
-sum-ones n (p ∷ ps) z =
-    let b : p < n = byDec (decLt p n) (λ h. h) (λ h. absurd (omega (arith, z p (omega arith), indicator-same p))) in
-    let one : sumBelow n (λ k. indicator k p) ≡ 1 = sumBelow-only n (λ k. indicator k p) p b (λ j jb ne. indicator-other j p ne) ∙ indicator-same p in
-    omega (arith, one, sum-ones n ps (λ k h. omega (arith, z k h)))
+-- a list that has each number below n once, and no other: a weight over it is one over these numbers
+pub once-sum : (n : ℕ) (ps : List ℕ) → ((k : ℕ) → count k ps ≡ below k n) → (f : ℕ → ℕ) → sumOver f ps ≡ sumBelow n f
+once-sum n ps o f =
+    gathered n f ps (λ k h. o k ∙ below-no k n h)
+    ∙ sumBelow-ext n (λ k. f k * count k ps) f (λ k b. ap (λ (y : ℕ). f k * y) (o k ∙ below-yes k n b) ∙ mul-one (f k))
 
-sum-const : (n : ℕ) → sumBelow n (λ k. 1) ≡ n
-sum-const zero = refl
-sum-const (suc n) = omega (arith, sum-const n)
-
--- a list that has each number below n once, and no other, has n elements
 pub once-length : (n : ℕ) (ps : List ℕ) → ((k : ℕ) → count k ps ≡ below k n) → length ps ≡ n
-once-length n ps o =
-    omega (
-      arith,
-      sum-ones n ps (λ k h. o k ∙ below-no k n h),
-      sum-swap n ps,
-      sumBelow-ext n (λ k. count k ps) (λ k. 1) (λ k b. o k ∙ below-yes k n b),
-      sum-const n,
-    )
+once-length n ps o = sym (sumOver-one ps) ∙ once-sum n ps o (λ k. 1) ∙ sumBelow-one n
 
 -- distinct numbers below n are at most n
 pub distinct-length : (n : ℕ) (ps : List ℕ) → ((k : ℕ) → count k ps ≤ 1) → ((k : ℕ) → n ≤ k → count k ps ≡ 0) → length ps ≤ n
-distinct-length n ps o z = omega (arith, sum-ones n ps z, sum-swap n ps, sumBelow-le n (λ k. count k ps) (λ k. 1) (λ k b. o k), sum-const n)
+distinct-length n ps o z =
+    omega (
+      arith,
+      sumOver-one ps,
+      gathered n (λ k. 1) ps z,
+      sumBelow-le n (λ k. 1 * count k ps) (λ k. 1) (λ k b. omega (arith, o k)),
+      sumBelow-one n,
+    )
 
-pub live-and-free : (x : Shape) → Valid x → size (x .tree) + length (x .freePlaces) ≡ x .places
-live-and-free x v =
+-- a weight over the places of the dots and the free places is one over all places
+pub places-weigh : (x : Shape) → Valid x → (f : ℕ → ℕ) → sumDots (λ d. f (d .place)) (x .tree) + sumOver f (x .freePlaces) ≡ sumBelow (x .places) f
+places-weigh x v f =
     let ps = map (λ d. d .place) (dots (x .tree)) in
-    let one = once-length (x .places) (ps ++ x .freePlaces) (λ k.
+    let one = once-sum (x .places) (ps ++ x .freePlaces) (λ k.
     omega (
       arith,
       sumOver-append (indicator k) ps (x .freePlaces),
       sumOver-map (indicator k) (λ d. d .place) (dots (x .tree)),
       sumDots-dots (atPlace k) (x .tree),
       v .placesOnce k,
-    )) in
+    )) f in
     omega (
       arith,
       one,
-      length-append ps (x .freePlaces),
-      sumOver-one ps,
-      sumOver-map (λ p. 1) (λ d. d .place) (dots (x .tree)),
-      sumDots-dots (λ d. 1) (x .tree),
+      sumOver-append f ps (x .freePlaces),
+      sumOver-map f (λ d. d .place) (dots (x .tree)),
+      sumDots-dots (λ d. f (d .place)) (x .tree),
     )
+
+pub live-and-free : (x : Shape) → Valid x → size (x .tree) + length (x .freePlaces) ≡ x .places
+live-and-free x v = omega (arith, places-weigh x v (λ p. 1), sumOver-one (x .freePlaces), sumBelow-one (x .places))
 
 -- ---- what the settings' ranges say
 

@@ -2,7 +2,7 @@
 --     byDec        by cases on a decision
 --     indicator-.. 1 at its number, 0 at any other
 --     sumOver-..   a sum over a list
---     sumBelow-..  a sum over the numbers below n: its terms, sums of sums, multiples
+--     sumBelow-..  a sum over the numbers below n: its terms, sums of sums, multiples, swapped with a sum over a list
 --     changed-..   one place of a function is changed, and what that does to a sum
 use mathlib.Core.Path.{_≡_, refl, ap, sym, _∙_, subst}
 use mathlib.Core.Logic.{_≢_}
@@ -63,6 +63,10 @@ pub sumOver-map : {A B : Type 0} (h : B → ℕ) (f : A → B) (xs : List A) →
 sumOver-map h f [] = refl
 sumOver-map h f (x ∷ xs) = omega (arith, sumOver-map h f xs)
 
+pub sumOver-mul : {A : Type 0} (n : ℕ) (h : A → ℕ) (xs : List A) → sumOver (λ x. n * h x) xs ≡ n * sumOver h xs
+sumOver-mul n h [] = sym (mul-zero n)
+sumOver-mul n h (x ∷ xs) = omega (arith, sumOver-mul n h xs, mul-add n (h x) (sumOver h xs))
+
 -- ---- a sum over the numbers below n
 
 pub sumBelow-ext : (n : ℕ) (f g : ℕ → ℕ) → ((i : ℕ) → i < n → f i ≡ g i) → sumBelow n f ≡ sumBelow n g
@@ -80,6 +84,10 @@ sumBelow-add (suc n) f g = omega (arith, sumBelow-add n f g)
 pub sumBelow-mul : (k n : ℕ) (f : ℕ → ℕ) → sumBelow k (λ i. n * f i) ≡ n * sumBelow k f
 sumBelow-mul zero n f = sym (mul-zero n)
 sumBelow-mul (suc k) n f = omega (arith, sumBelow-mul k n f, mul-add n (sumBelow k f) (f k))
+
+pub sumBelow-one : (n : ℕ) → sumBelow n (λ k. 1) ≡ n
+sumBelow-one zero = refl
+sumBelow-one (suc n) = omega (arith, sumBelow-one n)
 
 -- a term is at most the sum, and two different terms are
 pub sumBelow-term : (n : ℕ) (f : ℕ → ℕ) (c : ℕ) → c < n → f c ≤ sumBelow n f
@@ -119,6 +127,12 @@ sumBelow-only (suc n) f c h z =
     byDec (ℕ-discrete c n)
     (λ e. omega (arith, ap f e, sumBelow-zero n f (λ j b. z j (omega arith) (λ e′. omega arith))))
     (λ ne. omega (arith, sumBelow-only n f c (omega arith) (λ j b. z j (omega arith)), z n (le-refl (suc n)) (λ e. ne (sym e))))
+
+-- two sums, swapped
+pub sumBelow-swap : {A : Type 0} (n : ℕ) (h : ℕ → A → ℕ) (xs : List A)
+    → sumBelow n (λ k. sumOver (h k) xs) ≡ sumOver (λ a. sumBelow n (λ k. h k a)) xs
+sumBelow-swap n h [] = sumBelow-zero n (λ k. 0) (λ j b. refl)
+sumBelow-swap n h (x ∷ xs) = omega (arith, sumBelow-add n (λ k. h k x) (λ k. sumOver (h k) xs), sumBelow-swap n h xs)
 
 -- ---- one place of a function is changed
 

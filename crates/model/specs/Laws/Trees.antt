@@ -1,20 +1,14 @@
 -- Laws of trees.
---     dots         all dots, in the order of the query's walk
---     sumDots-dots, allDots-dots, allDots-map      a weight over them, and what holds of each
+--     sumDots-dots, allDots-dots, allDots-map      a weight over all dots, and what holds of each
 --     shallow-le   a tree is no higher than a greater height
 use mathlib.Core.Path.{_≡_, refl, _∙_}
-use mathlib.Core.List.{List}
 use Prim.Native.Nat.{ℕ, zero, suc, _≤_}
 use native.Mathlib.Omega.{arith}
 use Rattle.model.specs.Sums.{sumOver}
-use Rattle.model.specs.Lists.{joinBelow, All}
-use Rattle.model.specs.Trees.{Placed, Tree, leaf, branch, sumDots, AllDots, Shallow}
+use Rattle.model.specs.Lists.{All}
+use Rattle.model.specs.Trees.{Placed, Tree, leaf, branch, sumDots, AllDots, dots, Shallow}
 use Rattle.model.specs.Laws.Sums.{sumBelow-ext}
 use Rattle.model.specs.Laws.Lists.{sumOver-joinBelow, all-map, all-joinBelow}
-
-abbrev pub dots : Tree → List Placed
-dots (leaf chain) = chain
-dots (branch g f) = joinBelow 5 (λ i. dots (f i))
 
 pub sumDots-dots : (h : Placed → ℕ) (t : Tree) → sumOver h (dots t) ≡ sumDots h t
 sumDots-dots h (leaf c) = refl
