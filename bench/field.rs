@@ -2,19 +2,21 @@
 use crate::krakvinge::{Record, Settings};
 use crate::random::Random;
 
-pub const PITCH: i32 = 10;
-const DOT: i32 = 6;
-
-// The dots of a row lie `step` apart and the rows `rise`; every other row is shifted. At 45 degrees the pitch is 14 / √2.
+// Square dots of the size `dot`: in a row they lie `step` apart, the rows `rise`; every other row is shifted. `pitch` is a cell's side.
 pub struct Screen {
-    pub angle: u32,
+    pub name: &'static str,
+    pub pitch: i32,
+    dot: i32,
     step: i32,
     rise: i32,
     shift: i32,
 }
 
-pub const UPRIGHT: Screen = Screen { angle: 0, step: PITCH, rise: PITCH, shift: 0 };
-pub const DIAGONAL: Screen = Screen { angle: 45, step: 14, rise: 7, shift: 7 };
+pub const UPRIGHT: Screen = Screen { name: "upright", pitch: 10, dot: 6, step: 10, rise: 10, shift: 0 };
+// At 45 degrees; 14 / √2 is about 10.
+pub const DIAGONAL: Screen = Screen { name: "diagonal", pitch: 10, dot: 6, step: 14, rise: 7, shift: 7 };
+// Every second cell of a checkerboard, full.
+pub const TINT: Screen = Screen { name: "dense tint", pitch: 1, dot: 1, step: 2, rise: 1, shift: 1 };
 
 // A square film and its dots, each as the record of its insert, by rows; the inks in turn.
 pub struct Field {
@@ -28,7 +30,7 @@ impl Screen {
         let rows = |columns: i32| columns * self.step / self.rise;
         let columns = (1..).find(|&c| (c * rows(c)) as usize >= count).expect("a film");
         let places = (0..rows(columns)).flat_map(|j| (0..columns).map(move |i| (self.step * i + j % 2 * self.shift, self.rise * j)));
-        let dots = places.zip(0..count as u32).map(|((x, y), id)| Record::insert(id, [x, y, x + DOT, y + DOT], id % 16)).collect();
+        let dots = places.zip(0..count as u32).map(|((x, y), id)| Record::insert(id, [x, y, x + self.dot, y + self.dot], id % 16)).collect();
         Field { side: columns * self.step, dots }
     }
 }

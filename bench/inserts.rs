@@ -1,5 +1,5 @@
 // Inserts by one batch, against as many inserts into the original.
-use crate::field::{DIAGONAL, ORDERS, UPRIGHT};
+use crate::field::{Order, Screen};
 use crate::krakvinge::{Record, Rows, Settings};
 use crate::original;
 use crate::port;
@@ -36,16 +36,16 @@ fn measure(settings: &Settings, dots: &[Record], groups: usize) -> Option<(Best,
     Some((theirs, ours))
 }
 
-pub fn print(dots: usize) -> Ratios {
+pub fn print(dots: usize, screens: &[Screen], orders: &[Order]) -> Ratios {
     let groups = port::groups_for(dots);
     println!("\ninserts by batch: {dots} dots, N = {dots}, G = {groups}");
-    println!("screen  leaf limit  smallest cell  order      original us  port us  ratio");
+    println!("screen      leaf limit  smallest cell  order      original us  port us  ratio");
     let mut ratios = Ratios::default();
-    for screen in [UPRIGHT, DIAGONAL] {
+    for screen in screens {
         let field = screen.field(dots);
         for (leaf_limit, smallest_cell) in SETTINGS {
-            for order in ORDERS {
-                print!("{:>6}  {leaf_limit:>10}  {smallest_cell:>13}  {:<9}", screen.angle, format!("{order:?}"));
+            for &order in orders {
+                print!("{:<10}  {leaf_limit:>10}  {smallest_cell:>13}  {:<9}", screen.name, format!("{order:?}"));
                 match measure(&field.settings(leaf_limit, smallest_cell), &field.ordered(order), groups) {
                     None => println!("  skipped: the groups run out"),
                     Some((theirs, ours)) => {

@@ -1,5 +1,5 @@
-// The port's times as ratios to the original's, in the same run: inserts by batch, single queries with and without the check, grid reports, the check
-// alone. Both take turns on trees built anew, the best of several counts, and their answers must be the same.
+// The port's times as ratios to the original's, in the same run: inserts by batch, single queries with and without the check, both on a dense tint too,
+// grid reports, the check alone. Both take turns on trees built anew, the best of several counts, and their answers must be the same.
 mod checks;
 mod field;
 mod grids;
@@ -15,18 +15,24 @@ mod queries;
 mod random;
 mod time;
 
+use field::{Order, DIAGONAL, ORDERS, TINT, UPRIGHT};
+
 include!(concat!(env!("ORIGINAL"), "/modules.rs"));
 
 const DOTS: [usize; 3] = [1_000, 10_000, 60_000];
 
 fn main() {
-    let inserted: Vec<_> = DOTS.map(inserts::print).into();
-    let walked: Vec<_> = DOTS.map(queries::print).into();
+    let inserted = DOTS.map(|dots| inserts::print(dots, &[UPRIGHT, DIAGONAL], &ORDERS));
+    let walked = DOTS.map(|dots| queries::print(dots, &DIAGONAL, &[Order::Rows, Order::Random]));
+    let tinted = DOTS.map(|dots| inserts::print(dots, &[TINT], &[Order::Random]));
+    let tint_walked = DOTS.map(|dots| queries::print(dots, &TINT, &[Order::Random]));
     let counted = grids::DOTS.map(grids::print);
     checks::print(&DOTS);
     println!("\ntargets: inserts by batch of 60000 at most 0.4, the query's walk at leaf limit 16 of 60000 at most 1.0");
-    for (dots, (inserts, walks)) in DOTS.iter().zip(inserted.iter().zip(&walked)) {
-        println!("{dots:>5} dots: inserts by batch {inserts}; the walk at leaf limit 16 {walks}");
+    for (name, inserted, walked) in [("screens", inserted, walked), ("dense tint", tinted, tint_walked)] {
+        for (dots, (inserts, walks)) in DOTS.iter().zip(inserted.iter().zip(&walked)) {
+            println!("{dots:>5} dots, {name}: inserts by batch {inserts}; the walk at leaf limit 16 {walks}");
+        }
     }
     for (dots, counts) in grids::DOTS.iter().zip(&counted) {
         println!("{dots:>5} dots: grid reports {counts}");

@@ -1,5 +1,5 @@
 // Single queries of square windows, of all inks: the original's, the port's walk alone, the port's call with the check.
-use crate::field::{Order, DIAGONAL, PITCH};
+use crate::field::{Order, Screen};
 use crate::krakvinge::{Record, Rect, Rows, Settings, ALL_INKS};
 use crate::original;
 use crate::port;
@@ -26,8 +26,8 @@ struct Questions {
 }
 
 impl Questions {
-    fn new(cells: i32, side: i32) -> Questions {
-        let (mut random, size) = (Random(cells as u64), cells * PITCH);
+    fn new(cells: i32, pitch: i32, side: i32) -> Questions {
+        let (mut random, size) = (Random(cells as u64), cells * pitch);
         let mut corner = || random.below((side - size) as u64 + 1) as i32;
         let windows = (0..WINDOWS).map(|_| [corner(), corner()]).map(|[x, y]| [x, y, x + size, y + size]).collect();
         Questions { cells, windows, hits: 0, original: Best::none(), walk: Best::none(), checked: Best::none() }
@@ -67,9 +67,10 @@ impl Questions {
     }
 }
 
-fn measure(settings: &Settings, dots: &[Record]) -> Vec<Questions> {
+fn measure(settings: &Settings, dots: &[Record], pitch: i32) -> Vec<Questions> {
     let elements = original::elements(dots);
-    let mut questions: Vec<_> = CELLS.iter().filter(|&cells| cells * PITCH <= settings.width).map(|&cells| Questions::new(cells, settings.width)).collect();
+    let sizes = CELLS.into_iter().filter(|cells| cells * pitch <= settings.width);
+    let mut questions: Vec<_> = sizes.map(|cells| Questions::new(cells, pitch, settings.width)).collect();
     for _ in 0..REPETITIONS {
         let mut tree = original::fresh(settings);
         assert!(original::insert_all(&mut tree, &elements));
@@ -84,14 +85,14 @@ fn measure(settings: &Settings, dots: &[Record]) -> Vec<Questions> {
 }
 
 // Answers the walk's ratios at leaf limit 16.
-pub fn print(dots: usize) -> Ratios {
-    println!("\nsingle queries: {dots} dots on a screen at 45 degrees, a mean of {WINDOWS} windows");
+pub fn print(dots: usize, screen: &Screen, orders: &[Order]) -> Ratios {
+    println!("\nsingle queries: {dots} dots, {}, a mean of {WINDOWS} windows", screen.name);
     println!("leaf limit  order   cells    hits  original us  walk us  ratio  with check us    ratio");
-    let field = DIAGONAL.field(dots);
+    let field = screen.field(dots);
     let mut ratios = Ratios::default();
     for leaf_limit in LEAF_LIMITS {
-        for order in [Order::Rows, Order::Random] {
-            for asked in measure(&field.settings(leaf_limit, 1), &field.ordered(order)) {
+        for &order in orders {
+            for asked in measure(&field.settings(leaf_limit, 1), &field.ordered(order), screen.pitch) {
                 print!("{leaf_limit:>10}  {:<6}", format!("{order:?}"));
                 asked.print();
                 if leaf_limit == 16 {
