@@ -1,5 +1,6 @@
 // The port's times as ratios to the original's, in the same run: inserts by batch, single queries with and without the check, both on a dense tint too,
-// grid reports, the check alone. Both take turns on trees built anew, the best of several counts, and their answers must be the same.
+// grid reports, the check alone; and a tint patch's as a ratio to the batch of the same inserts. Both take turns on trees built anew, the best of several
+// counts, and their answers must be the same.
 mod checks;
 mod field;
 mod grids;
@@ -8,6 +9,7 @@ mod inserts;
 #[allow(dead_code)]
 mod krakvinge;
 mod original;
+mod patches;
 mod port;
 mod queries;
 #[allow(dead_code)]
@@ -27,8 +29,9 @@ fn main() {
     let tinted = DOTS.map(|dots| inserts::print(dots, &[TINT], &[Order::Random]));
     let tint_walked = DOTS.map(|dots| queries::print(dots, &TINT, &[Order::Random]));
     let counted = grids::DOTS.map(grids::print);
+    let patched = patches::print();
     checks::print(&DOTS);
-    println!("\ntargets: inserts by batch of 60000 at most 0.4, the query's walk at leaf limit 16 of 60000 at most 1.0");
+    println!("\ntargets: inserts by batch of 60000 at most 0.4, the query's walk at leaf limit 16 of 60000 at most 1.0, a patch at most 1.5 of its batch");
     for (name, inserted, walked) in [("screens", inserted, walked), ("dense tint", tinted, tint_walked)] {
         for (dots, (inserts, walks)) in DOTS.iter().zip(inserted.iter().zip(&walked)) {
             println!("{dots:>5} dots, {name}: inserts by batch {inserts}; the walk at leaf limit 16 {walks}");
@@ -37,4 +40,5 @@ fn main() {
     for (dots, counts) in grids::DOTS.iter().zip(&counted) {
         println!("{dots:>5} dots: grid reports {counts}");
     }
+    println!("60000 dots: patches, of the batch of the same inserts {patched}");
 }

@@ -1,4 +1,4 @@
-/* A worked example for a C host: a film of 16 by 16, three dots of two inks, a window, a grid of windows, and what is refused. */
+/* A worked example for a C host: a film of 16 by 16, three dots of two inks, a window, a grid of windows, a tint patch, and what is refused. */
 #include "krakvinge.h"
 #include <inttypes.h>
 #include <stdio.h>
@@ -66,6 +66,14 @@ static uint64_t batch(void) {
     return result;
 }
 
+static void patch(uint32_t tint) {
+    uint64_t result = krakvinge_patch(TREE, 0, 0, 1, 1, tint, 10, ANSWER);
+    if (result == 0)
+        printf("patch of tint %" PRIu32 ": %" PRIu32 " dots\n", tint, answer[0]);
+    else
+        printf("patch of tint %" PRIu32 ": refusal %" PRIu32 ": %s\n", tint, KRAKVINGE_REFUSAL(result), krakvinge_refusal_text(KRAKVINGE_REFUSAL(result)));
+}
+
 int main(void) {
     int32_t row[24] = {0};
     uint32_t ids[PLACES] = {0};
@@ -92,5 +100,8 @@ int main(void) {
     printf("references: %" PRIu32 "\n", answer[0]);
     printf("live: %" PRIu32 "\n", state[9]);
     refused |= batch();
+    patch(4);
+    patch(200);
+    patch(257);
     return refused == 0 ? 0 : 1;
 }

@@ -1,9 +1,9 @@
-// A worked example for a Rust host: a film of 16 by 16, three dots of two inks, a window, a grid of windows, and what is refused.
+// A worked example for a Rust host: a film of 16 by 16, three dots of two inks, a window, a grid of windows, a tint patch, and what is refused.
 #[path = "rust/krakvinge.rs"]
 #[allow(dead_code)]
 mod krakvinge;
 
-use krakvinge::{Grid, Record, Refused, Settings, Tree, ALL_INKS};
+use krakvinge::{Grid, Patch, Record, Refused, Settings, Tree, ALL_INKS};
 
 fn grid(film: &mut Tree) -> Result<(), Refused> {
     let (windows, mut counts) = (Grid { x: 0, y: 0, width: 8, height: 8, columns: 2, rows: 2 }, [0; 4]);
@@ -50,6 +50,12 @@ fn run() -> Result<(), Refused> {
         match Record::refusal(word) {
             Some(number) => println!("record {i}: refused {number}"),
             None => println!("record {i}: {word}"),
+        }
+    }
+    for tint in [4, 200, 257] {
+        match film.patch(&Patch { x: 0, y: 0, columns: 1, rows: 1, tint, first_id: 10 }) {
+            Ok(dots) => println!("patch of tint {tint}: {dots} dots"),
+            Err(refused) => println!("patch of tint {tint}: {refused}"),
         }
     }
     Ok(())

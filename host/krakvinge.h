@@ -17,7 +17,7 @@
  * An answer of query, all and grid is one word of the row, an answer of leaves six (KRAKVINGE_LEAF_WORDS).
  * An accepted call writes its answer to the answer row; a refused one leaves it and the state as they were:
  *     insert: splits, 0       remove, cleanup: 1 for yes or 0 for no, 0       query, all: hits, opened       leaves, references: number, 0
- *     grid: the total, its low word first (KRAKVINGE_TOTAL)
+ *     grid: the total, its low word first (KRAKVINGE_TOTAL)       patch: dots laid, 0
  * A batch has a row of answers instead, a word for each record.
  */
 #ifndef KRAKVINGE_H
@@ -29,7 +29,7 @@
 extern "C" {
 #endif
 
-#define KRAKVINGE_VERSION "0.4.0"
+#define KRAKVINGE_VERSION "0.5.0"
 
 #define KRAKVINGE_STATE_WORDS 10
 #define KRAKVINGE_ANSWER_WORDS 2
@@ -67,6 +67,8 @@ enum krakvinge_refusal {
     KRAKVINGE_BAD_INK = 10,
     KRAKVINGE_BAD_WINDOWS = 11,
     KRAKVINGE_BAD_CORNER = 12,
+    KRAKVINGE_BAD_PATCH = 13,
+    KRAKVINGE_PATCH_REFUSED = 14,
 };
 
 static inline const char *krakvinge_refusal_text(uint32_t refusal) {
@@ -84,6 +86,8 @@ static inline const char *krakvinge_refusal_text(uint32_t refusal) {
     case KRAKVINGE_BAD_INK: return "the ink is above 15";
     case KRAKVINGE_BAD_WINDOWS: return "the windows' size or number is out of range";
     case KRAKVINGE_BAD_CORNER: return "the grid's far corner is out of range";
+    case KRAKVINGE_BAD_PATCH: return "the patch's tint or number of tiles is out of range";
+    case KRAKVINGE_PATCH_REFUSED: return "a dot of the patch would be refused, or its ids run out";
     default: return "no refusal of this library";
     }
 }
@@ -116,6 +120,14 @@ uint64_t krakvinge_cleanup(uint32_t *state, size_t state_words, uint32_t *nodes,
 uint64_t krakvinge_batch(uint32_t *state, size_t state_words, uint32_t *nodes, size_t node_words, uint32_t *dots, size_t dot_words,
                          int32_t *rects, size_t rect_words, uint8_t *marks, size_t mark_bytes, const uint32_t *records, size_t record_words,
                          uint32_t *answers, size_t answer_words);
+
+/* Lays a tint patch: columns times rows of tiles (1 to 64 each way) of 16 by 16 units, from the first corner x, y on. A tint from 0 to 256 lays so many
+ * one-unit dots of ink 0 in each tile, where its threshold is below the tint: row after row over the whole patch, each from left to right, the first
+ * with first_id and each with the next id. They are inserts: if one would be refused in its turn, or its id passed 4294967295, the patch is refused
+ * as 14 and no dot is laid. Another tint or number of tiles is refused as 13, ahead of 1. */
+uint64_t krakvinge_patch(uint32_t *state, size_t state_words, uint32_t *nodes, size_t node_words, uint32_t *dots, size_t dot_words,
+                         int32_t *rects, size_t rect_words, uint8_t *marks, size_t mark_bytes, int32_t x, int32_t y, uint32_t columns,
+                         uint32_t rows, uint32_t tint, uint32_t first_id, uint32_t *answer, size_t answer_words);
 
 /* The dots of the inks in the mask. Their ids stand in the row's first words; a longer row keeps its tail. The nodes opened are the same for every
  * mask. */

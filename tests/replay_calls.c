@@ -2,7 +2,7 @@
  * or a call, '=', its result and, where it was accepted, the two words of its answer and those that it listed; or 'nodes', 'dots' or 'freegroups',
  * '=', and the words of the memory or the free groups' numbers at this point. A recorded word '_' stands for any.
  * The numbers of a call: insert id x1 y1 x2 y2 ink; remove id x1 y1 x2 y2; query x1 y1 x2 y2 mask room; all and leaves room;
- * grid x y width height columns rows room. */
+ * grid x y width height columns rows room; patch x y columns rows tint first-id. */
 #include "../host/krakvinge.h"
 #include <inttypes.h>
 #include <stdbool.h>
@@ -46,7 +46,7 @@ static bool make(const long long *n, int count) {
 
 /* How many numbers a call of the kind has; -1 for no call. */
 static int count_of(const char *kind) {
-    if (strcmp(kind, "insert") == 0 || strcmp(kind, "query") == 0)
+    if (strcmp(kind, "insert") == 0 || strcmp(kind, "query") == 0 || strcmp(kind, "patch") == 0)
         return 6;
     if (strcmp(kind, "remove") == 0)
         return 5;
@@ -79,6 +79,8 @@ static uint64_t call(const char *kind, const long long *n, size_t room) {
         return krakvinge_all(TREE, ids, room, ANSWER);
     if (strcmp(kind, "grid") == 0)
         return krakvinge_grid(TREE, RECT(n), (int32_t)n[4], (int32_t)n[5], ids, room, ANSWER);
+    if (strcmp(kind, "patch") == 0)
+        return krakvinge_patch(TREE, (int32_t)n[0], (int32_t)n[1], (uint32_t)n[2], (uint32_t)n[3], (uint32_t)n[4], (uint32_t)n[5], ANSWER);
     if (strcmp(kind, "leaves") == 0)
         return krakvinge_leaves(TREE, numbers, room, ANSWER);
     return krakvinge_references(TREE, ANSWER);

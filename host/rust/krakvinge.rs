@@ -38,6 +38,8 @@ impl std::fmt::Display for Refused {
             10 => "the ink is above 15",
             11 => "the windows' size or number is out of range",
             12 => "the grid's far corner is out of range",
+            13 => "the patch's tint or number of tiles is out of range",
+            14 => "a dot of the patch would be refused, or its ids run out",
             _ => "no refusal of this library",
         };
         write!(f, "refusal {}: {why}", self.number)
@@ -62,6 +64,17 @@ pub struct Grid {
     pub height: i32,
     pub columns: i32,
     pub rows: i32,
+}
+
+/// A tint patch: its first corner, its tiles each way (1 to 64), its tint (0 to 256), its first id.
+#[derive(Clone, Copy, PartialEq, Eq, Debug)]
+pub struct Patch {
+    pub x: i32,
+    pub y: i32,
+    pub columns: u32,
+    pub rows: u32,
+    pub tint: u32,
+    pub first_id: u32,
 }
 
 /// A record of a batch, as its seven 32-bit words. A cleanup's id and rectangle mean nothing, nor does the ink of a record that is no insert.
@@ -108,6 +121,7 @@ pub mod raw {
         pub fn krakvinge_remove(s: *mut u32, sn: usize, n: *mut u32, nn: usize, d: *mut u32, dn: usize, r: *mut i32, rn: usize, m: *mut u8, mn: usize, id: u32, x1: i32, y1: i32, x2: i32, y2: i32, a: *mut u32, an: usize) -> u64;
         pub fn krakvinge_cleanup(s: *mut u32, sn: usize, n: *mut u32, nn: usize, d: *const u32, dn: usize, r: *const i32, rn: usize, m: *mut u8, mn: usize, a: *mut u32, an: usize) -> u64;
         pub fn krakvinge_batch(s: *mut u32, sn: usize, n: *mut u32, nn: usize, d: *mut u32, dn: usize, r: *mut i32, rn: usize, m: *mut u8, mn: usize, w: *const u32, wn: usize, a: *mut u32, an: usize) -> u64;
+        pub fn krakvinge_patch(s: *mut u32, sn: usize, n: *mut u32, nn: usize, d: *mut u32, dn: usize, r: *mut i32, rn: usize, m: *mut u8, mn: usize, x: i32, y: i32, columns: u32, rows: u32, tint: u32, first_id: u32, a: *mut u32, an: usize) -> u64;
         pub fn krakvinge_query(s: *const u32, sn: usize, n: *const u32, nn: usize, d: *const u32, dn: usize, r: *const i32, rn: usize, m: *mut u8, mn: usize, x1: i32, y1: i32, x2: i32, y2: i32, inks: u16, i: *mut u32, il: usize, a: *mut u32, an: usize) -> u64;
         pub fn krakvinge_all(s: *const u32, sn: usize, n: *const u32, nn: usize, d: *const u32, dn: usize, r: *const i32, rn: usize, m: *mut u8, mn: usize, i: *mut u32, il: usize, a: *mut u32, an: usize) -> u64;
         pub fn krakvinge_leaves(s: *const u32, sn: usize, n: *const u32, nn: usize, d: *const u32, dn: usize, r: *const i32, rn: usize, m: *mut u8, mn: usize, w: *mut i32, wn: usize, a: *mut u32, an: usize) -> u64;
@@ -172,6 +186,16 @@ impl Rows {
             raw::krakvinge_batch(
                 s.as_mut_ptr(), s.len(), n.as_mut_ptr(), n.len(), d.as_mut_ptr(), d.len(), r.as_mut_ptr(), r.len(), m.as_mut_ptr(), m.len(),
                 w.as_ptr(), w.len(), a.as_mut_ptr(), a.len(),
+            )
+        }
+    }
+
+    pub fn patch(&mut self, p: &Patch, a: &mut [u32]) -> u64 {
+        let Rows { state: s, nodes: n, dots: d, rects: r, marks: m } = self;
+        unsafe {
+            raw::krakvinge_patch(
+                s.as_mut_ptr(), s.len(), n.as_mut_ptr(), n.len(), d.as_mut_ptr(), d.len(), r.as_mut_ptr(), r.len(), m.as_mut_ptr(), m.len(),
+                p.x, p.y, p.columns, p.rows, p.tint, p.first_id, a.as_mut_ptr(), a.len(),
             )
         }
     }
@@ -270,6 +294,12 @@ impl Tree {
         let result = self.rows.batch(Record::words(records), answers);
         self.accepted(result)?;
         Ok(())
+    }
+
+    /// Lays the patch whole, each dot as an insert, or nothing of it; answers the number of dots.
+    pub fn patch(&mut self, patch: &Patch) -> Result<u32, Refused> {
+        let result = self.rows.patch(patch, &mut self.answer);
+        Ok(self.accepted(result)?[0])
     }
 
     /// Lists the dots of the inks in the mask, bit k for ink k.

@@ -87,6 +87,12 @@ fn state_differs(list: &List, original: &Original, rows: &Rows) -> Option<String
     rows.marks.iter().any(|m| *m != 0).then(|| "a mark is left".to_string())
 }
 
+// All that the memory holds.
+pub fn memory_differs(list: &List, original: &Original, rows: &Rows) -> Option<String> {
+    let text = state_differs(list, original, rows).or_else(|| trees_differ(original, rows));
+    text.or_else(|| free_groups_differ(original, rows)).or_else(|| free_places_differ(original, rows))
+}
+
 // Both sides through a list. `tell` hears each call with its answer and, of a query, how many dots its mask left out.
 pub fn differ(list: &List, fault: Fault, every: usize, mut tell: impl FnMut(&Call, &Answer, usize)) -> Option<Difference> {
     let (mut original, mut port) = (Original::new(list), Port::new(list, fault));
@@ -99,8 +105,7 @@ pub fn differ(list: &List, fault: Fault, every: usize, mut tell: impl FnMut(&Cal
         if whole && text.is_none() {
             let mut rows = port.rows.clone();
             fault.spoil_rows(&mut rows);
-            text = trees_differ(&original, &rows);
-            text = text.or_else(|| free_groups_differ(&original, &rows)).or_else(|| free_places_differ(&original, &rows));
+            text = memory_differs(list, &original, &rows);
         }
         if let Some(text) = text {
             return Some(Difference { at, text });

@@ -1,13 +1,13 @@
 // What every call turns down first: rows of another length (1), settings out of range (2), a memory that is no tree (3).
 // What a refusal keeps is §11.7: all, but that after 3 the marks are 0.
 use crate::calls::{Call, UNWRITTEN};
-use crate::krakvinge::{Grid, Rows, ALL_INKS};
+use crate::krakvinge::{Grid, Patch, Rows, ALL_INKS};
 use crate::lists::short;
 use crate::original::NONE;
 use crate::random::Random;
 
 const ROUNDS: u32 = 3_000;
-const KINDS: usize = 9;
+const KINDS: usize = 10;
 
 fn call(rows: &mut Rows, kind: usize, words: &mut [u32], ids: &mut [u32], numbers: &mut [i32]) -> u64 {
     match kind {
@@ -19,6 +19,7 @@ fn call(rows: &mut Rows, kind: usize, words: &mut [u32], ids: &mut [u32], number
         5 => rows.all(ids, words),
         6 => rows.references(words),
         7 => rows.grid(&Grid { x: 0, y: 0, width: 4, height: 4, columns: 2, rows: 3 }, ids, words),
+        8 => rows.patch(&Patch { x: 0, y: 0, columns: 1, rows: 1, tint: 2, first_id: 9 }, words),
         _ => rows.batch(&[0, 1, 1, 1, 2, 2, 3, 1, 1, 1, 1, 2, 2, 3], words),
     }
 }

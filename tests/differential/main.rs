@@ -5,6 +5,7 @@
 //     differential --differences      where the two differ on purpose (docs/DIFFERENCES.md)
 //     differential --batches          batches against single calls
 //     differential --grids            grid reports against the original's queries
+//     differential --patches          patches against the original's inserts
 //     differential --damaged          rows of wrong lengths, settings out of range and damaged trees, which every call turns down
 mod batches;
 mod calls;
@@ -23,6 +24,8 @@ mod inked;
 mod krakvinge;
 mod lists;
 mod original;
+mod patch_faults;
+mod patches;
 mod port;
 #[path = "../random.rs"]
 mod random;
@@ -85,7 +88,7 @@ fn find_faults() -> bool {
 }
 
 // The words of an accepted answer, and those that it listed.
-fn recorded(call: &Call, answer: &Answer) -> String {
+pub fn recorded(call: &Call, answer: &Answer) -> String {
     if answer.result != 0 {
         return String::new();
     }
@@ -95,9 +98,9 @@ fn recorded(call: &Call, answer: &Answer) -> String {
     format!(" {first} {second}{row}")
 }
 
-// Short lists in turn until the text is long enough; grids after each.
+// Short lists in turn until the text is long enough; grids and patches after each.
 fn record() -> bool {
-    let (mut random, mut chance) = (Random(7), Random(64));
+    let (mut random, mut chance, mut tints) = (Random(7), Random(64), Random(256));
     let mut size = 0;
     while size < 300_000 {
         let mut list = lists::short(&mut random);
@@ -112,11 +115,13 @@ fn record() -> bool {
         }
         size += text.len();
         print!("{text}");
-        match grids::recorded(&list, &mut chance) {
-            Ok(text) => print!("{text}"),
-            Err(text) => {
-                println!("{}\n{text}", list.head());
-                return false;
+        for recorded in [grids::recorded(&list, &mut chance), patches::recorded(&list, &mut tints)] {
+            match recorded {
+                Ok(text) => print!("{text}"),
+                Err(text) => {
+                    println!("{}\n{text}", list.head());
+                    return false;
+                }
             }
         }
     }
@@ -131,6 +136,7 @@ fn main() {
         Some("--record") => record(),
         Some("--batches") => batches::as_single_calls(),
         Some("--grids") => grids::as_queries(),
+        Some("--patches") => patches::as_inserts(),
         Some("--damaged") => damaged::turned_down(),
         Some("--differences") => differences::as_documented(),
         _ => compare_lists(number(0, CALLS), number(1, SEED)),

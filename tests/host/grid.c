@@ -1,36 +1,12 @@
 /* Trials of krakvinge_grid from C: counts worked out by hand, every refusal in its order, and what each call keeps. */
-#include "../../host/krakvinge.h"
-#include <inttypes.h>
-#include <stdbool.h>
-#include <stdio.h>
-#include <string.h>
-
 #define GROUPS 4
 #define PLACES 12
+#include "tree.h"
+
 #define ROW 4100
-#define UNWRITTEN 77777
 #define FAR 1073741823
 #define WANTED(windows) (8 + 256 * (uint64_t)(windows))
-#define TREE(t, l) (t).state, (l).state, (t).nodes, (l).nodes, (t).dots, (l).dots, (t).rects, (l).rects, (t).marks, (l).marks
-#define WORDS(row) (sizeof(row) / sizeof(row)[0])
-
-struct tree {
-    uint32_t state[KRAKVINGE_STATE_WORDS];
-    uint32_t nodes[KRAKVINGE_NODE_WORDS(GROUPS)];
-    uint32_t dots[KRAKVINGE_DOT_WORDS(PLACES)];
-    int32_t rects[KRAKVINGE_RECT_WORDS(PLACES)];
-    uint8_t marks[KRAKVINGE_MARK_BYTES(GROUPS, PLACES)];
-};
-
-/* The lengths that a call is told. */
-struct lengths {
-    size_t state, nodes, dots, rects, marks, answer;
-};
-
-static const struct lengths RIGHT = {
-    KRAKVINGE_STATE_WORDS, KRAKVINGE_NODE_WORDS(GROUPS), KRAKVINGE_DOT_WORDS(PLACES), KRAKVINGE_RECT_WORDS(PLACES),
-    KRAKVINGE_MARK_BYTES(GROUPS, PLACES), KRAKVINGE_ANSWER_WORDS,
-};
+#define RIGHT lengths_of(GROUPS, PLACES)
 
 /* Seven dots: three squares, a point where four windows meet, a line on the edge of two, a point at 0, 0 (a free place has these words too), and a
  * square that reaches over the film's far corner. */
@@ -133,13 +109,13 @@ static bool make_film(void) {
     uint64_t refused = krakvinge_make(TREE(film, RIGHT));
     for (uint32_t i = 0; i < WORDS(DOTS); i++) {
         const int32_t *d = DOTS[i];
-        refused |= krakvinge_insert(TREE(film, RIGHT), i, d[0], d[1], d[2], d[3], i * 5 % 16, answer, RIGHT.answer);
+        refused |= krakvinge_insert(TREE(film, RIGHT), i, d[0], d[1], d[2], d[3], i * 5 % 16, answer, KRAKVINGE_ANSWER_WORDS);
     }
     /* two more points at 0, 0 come and go */
     for (uint32_t id = 7; id < 9; id++)
-        refused |= krakvinge_insert(TREE(film, RIGHT), id, 0, 0, 0, 0, 0, answer, RIGHT.answer);
+        refused |= krakvinge_insert(TREE(film, RIGHT), id, 0, 0, 0, 0, 0, answer, KRAKVINGE_ANSWER_WORDS);
     for (uint32_t id = 7; id < 9; id++)
-        refused |= krakvinge_remove(TREE(film, RIGHT), id, 0, 0, 0, 0, answer, RIGHT.answer);
+        refused |= krakvinge_remove(TREE(film, RIGHT), id, 0, 0, 0, 0, answer, KRAKVINGE_ANSWER_WORDS);
     return refused == 0;
 }
 
@@ -158,16 +134,6 @@ static bool answered(const struct trial *t, const uint32_t *counts, const uint32
     if (t->result != 0)
         return good && answer[0] == UNWRITTEN && answer[1] == UNWRITTEN;
     return good && total == t->total && KRAKVINGE_TOTAL(answer) == t->total;
-}
-
-/* The rows are as they were, and the marks 0 after any result but 1 and 2. */
-static bool kept(const struct tree *before, const struct tree *after, uint64_t result) {
-    struct tree wanted = *before;
-    if (result != 1 && result != 2)
-        memset(wanted.marks, 0, sizeof wanted.marks);
-    return memcmp(wanted.state, after->state, sizeof wanted.state) == 0 && memcmp(wanted.nodes, after->nodes, sizeof wanted.nodes) == 0 &&
-           memcmp(wanted.dots, after->dots, sizeof wanted.dots) == 0 && memcmp(wanted.rects, after->rects, sizeof wanted.rects) == 0 &&
-           memcmp(wanted.marks, after->marks, sizeof wanted.marks) == 0;
 }
 
 /* The trial on a tree with marks of any kind, told these lengths. */
@@ -198,22 +164,13 @@ static bool refused(const char *name, struct tree tree, struct lengths lengths, 
 
 static bool turned_down(void) {
     struct tree settings = film, damaged = film, both;
-    struct lengths state = RIGHT, nodes = RIGHT, dots = RIGHT, rects = RIGHT, marks = RIGHT, shorter = RIGHT, longer = RIGHT;
     settings.state[5] = 0;
     damaged.state[9]++;
     both = settings;
     both.state[9]++;
-    state.state--;
-    nodes.nodes--;
-    dots.dots--;
-    rects.rects--;
-    marks.marks--;
-    shorter.answer--;
-    longer.answer++;
-    bool good = refused("a state of 9 words", both, state, 1) && refused("the nodes' length", both, nodes, 1);
-    good = good && refused("the dots' length", both, dots, 1) && refused("the rects' length", both, rects, 1);
-    good = good && refused("the marks' length", both, marks, 1) && refused("an answer of 1 word", both, shorter, 1);
-    good = good && refused("an answer of 3 words", both, longer, 1);
+    bool good = true;
+    for (size_t i = 0; good && i < WORDS(WRONG); i++)
+        good = refused(WRONG[i], both, wrong(RIGHT, i), 1);
     good = good && refused("a leaf limit of 0", both, RIGHT, 2) && refused("a leaf limit of 0", settings, RIGHT, 2);
     return good && refused("no tree", damaged, RIGHT, 3) && refused("a bad grid", film, RIGHT, 11);
 }

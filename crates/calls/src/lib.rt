@@ -3,6 +3,7 @@ pub mod cleanup;
 pub mod insert;
 pub mod leaves;
 pub mod make;
+pub mod patch;
 pub mod query;
 pub mod references;
 pub mod remove;

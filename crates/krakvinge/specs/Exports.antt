@@ -4,7 +4,7 @@
 --     stateRow, answerRow      the state row and the answer row after a reply; a refused call leaves them as they were
 --     Out          an answer row and a result, by a reply
 --     Exported     THE PATTERN: refusal 1 where the host's own rows don't fit, else the call
---     Inserts, Removes, CleansUp, Queries, ListsAll, ListsLeaves, CountsDots, Reports, Batches, Makes, Checks
+--     Inserts, Removes, CleansUp, Queries, ListsAll, ListsLeaves, CountsDots, Reports, Batches, LaysPatch, Makes, Checks
 use mathlib.Core.Path.{_≡_}
 use mathlib.Core.List.{List, [], _∷_}
 use mathlib.Core.Bool.{Bool, true, false}
@@ -15,11 +15,13 @@ use Rattle.geometry.specs.declared.aabb.AABB.{AABB}
 use Rattle.grid.specs.declared.grid.Grid.{Grid}
 use Rattle.model.specs.declared.Dot.{Dot}
 use Rattle.model.specs.declared.State.{State}
+use Rattle.model.specs.declared.patch.Patch.{Patch}
 use Rattle.model.specs.declared.Window.{Window}
 use Rattle.model.specs.Layout.{World, world}
 use Rattle.model.specs.declared.answers.Found.{Found}
 use Rattle.model.specs.Calls.{Reply, refused, tooMany, answered, refusal, yesNo}
 use Rattle.model.specs.Calls.{Insert, Remove, Cleanup, Query, All, Leaves, References, GridReport, Make, Batch}
+use Rattle.model.specs.Patch.{patchFits, LayPatch}
 use Rattle.model.specs.declared.answers.MakeAnswer.{MakeAnswer}
 use Rattle.model.specs.Answers.{makeReply, makeState}
 use Rattle.tree_check.specs.Checks.{Checked}
@@ -128,6 +130,13 @@ Batches records l answers l′ answers′ result =
     Exported (batchFits (l .state) records) (λ (done : Unit {0}). [])
     (λ (w : World) (row : List ℕ) (w′ : World) (row′ : List ℕ) (reply : Reply (Unit {0})). Batch w (recordsIn records) row w′ row′ reply) l answers l′
     answers′ result
+
+-- refusal 13 comes ahead of 1 (§20.5)
+pub record LaysPatch (p : Patch) (l l′ : Lent) (result : ℕ) : Type 0 where
+  pub badPatch : patchFits p ≡ false → (l′ ≡ l) × (result ≡ 13)
+  pub goodPatch : patchFits p ≡ true
+      → Exported (rowsFit (l .state) (l .answer)) number (λ (w : World) (row : List ℕ) (w′ : World) (row′ : List ℕ)
+      (reply : Reply ℕ). LayPatch w p w′ reply) l [] l′ [] result
 
 -- ---- make, which has no answer row, and the check alone
 

@@ -3,7 +3,7 @@
 --     settingsIn, stateIn  the settings and the state in a row
 --     withState    the row with another state of the same settings
 --     rowsFit      a state row of ten words, an answer row of two
---     rectOf, gridOf       a rectangle by its corners; a grid by its six numbers
+--     rectOf, gridOf, patchOf      a rectangle by its corners; a grid and a patch by their six numbers
 use mathlib.Core.List.{List}
 use mathlib.Core.Bool.{Bool, cond, _&&_}
 use Prim.Native.Nat.{ℕ, _-_}
@@ -12,6 +12,7 @@ use lib.IntN.{ℤ, pos, negsuc}
 use lib.ListN.{length, getD, set}
 use Rattle.geometry.specs.declared.aabb.AABB.{AABB}
 use Rattle.grid.specs.declared.grid.Grid.{Grid}
+use Rattle.model.specs.declared.patch.Patch.{Patch}
 use Rattle.geometry.specs.declared.settings.Settings.{Settings}
 use Rattle.model.specs.declared.State.{State}
 
@@ -44,3 +45,6 @@ rectOf x1 y1 x2 y2 = record { x1 = x1; y1 = y1; x2 = x2; y2 = y2 }
 
 abbrev pub gridOf : ℤ → ℤ → ℤ → ℤ → ℤ → ℤ → Grid
 gridOf x y width height columns rows = record { x = x; y = y; width = width; height = height; columns = columns; rows = rows }
+
+abbrev pub patchOf : ℤ → ℤ → ℕ → ℕ → ℕ → ℕ → Patch
+patchOf x y columns rows tint first = record { x = x; y = y; columns = columns; rows = rows; tint = tint; «first_id» = first }

@@ -2,7 +2,7 @@
 ghost use mathlib.Core.Path.{_≡_};
 ghost use lib.ListN.{length};
 ghost use Rattle.model.specs.Answers.{makeReply, insertReply, insertState, removeReply, removeState, cleanupReply, cleanupState, queryReply};
-ghost use Rattle.model.specs.Answers.{leavesReply, referencesReply, gridReply};
+ghost use Rattle.model.specs.Answers.{leavesReply, referencesReply, gridReply, patchReply, patchState};
 ghost use Rattle.krakvinge.specs.Rows.{stateIn};
 ghost use Rattle.krakvinge.specs.Exports.{number, yesOrNo, hitsOpened, wide, resultOf, stateRow, madeRow, Out};
 use crate::rows::answer_out;
@@ -15,6 +15,7 @@ use model::answers::GridAnswer;
 use model::answers::InsertAnswer;
 use model::answers::LeavesAnswer;
 use model::answers::MakeAnswer;
+use model::answers::PatchAnswer;
 use model::answers::QueryAnswer;
 use model::answers::ReferencesAnswer;
 use model::answers::RemoveAnswer;
@@ -81,6 +82,22 @@ pub fn cleanup_out(state: &mut [u32], answer: &mut [u32], done: CleanupAnswer) -
         CleanupAnswer::Done(yes, after) => {
             state_out(state, after);
             answer_out(answer, yes_no(yes), 0);
+            0
+        }
+    }
+}
+
+// Of a patch: the dots laid, 0.
+pub fn patch_out(state: &mut [u32], answer: &mut [u32], done: PatchAnswer) -> u64
+    requires { ⌜ (length (now state) ≡ 10) × (length (now answer) ≡ 2) ⌝ }
+    ensures { λ r. ⌜ (now (state .exit) ≡ stateRow (patchState (stateIn (now (state .entry))) done) (now (state .entry)) (patchReply done))
+        × Out number (patchReply done) (now (answer .entry)) (now (answer .exit)) r ⌝ }
+{
+    match done {
+        PatchAnswer::Refused(refusal) => refusal as u64,
+        PatchAnswer::Laid(laid, after) => {
+            state_out(state, after);
+            answer_out(answer, laid, 0);
             0
         }
     }

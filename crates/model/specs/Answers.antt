@@ -19,6 +19,8 @@ use Rattle.model.specs.declared.answers.ReferencesAnswer.{ReferencesAnsw
 use Rattle.model.specs.declared.answers.ReferencesAnswer.the-variants as references
 use Rattle.model.specs.declared.answers.GridAnswer.{GridAnswer}
 use Rattle.model.specs.declared.answers.GridAnswer.the-variants as grid
+use Rattle.model.specs.declared.answers.PatchAnswer.{PatchAnswer}
+use Rattle.model.specs.declared.answers.PatchAnswer.the-variants as patch
 use Rattle.model.specs.Calls.{Reply, refused, tooMany, answered}
 
 -- make: nothing beside the state
@@ -81,3 +83,12 @@ abbrev pub gridReply : GridAnswer → Reply ℕ
 gridReply (grid.Refused k) = refused k
 gridReply (grid.TooMany n) = tooMany n
 gridReply (grid.Counted total) = answered total
+
+-- the patch: the number of dots laid
+abbrev pub patchReply : PatchAnswer → Reply ℕ
+patchReply (patch.Refused k) = refused k
+patchReply (patch.Laid number s) = answered number
+
+abbrev pub patchState : State → PatchAnswer → State
+patchState s (patch.Refused k) = s
+patchState s (patch.Laid number s′) = s′

@@ -3,8 +3,8 @@
 --     Event        a call with its arguments, its row and its reply
 --     Run          a list of events from one world to another
 --     book         the ledger of §12.3: the live dots, told arguments, accepted and yes alone
---     Distinct     no accepted insert names an id then live
---     Quiet        no accepted insert, no remove that said yes
+--     Distinct     no accepted insert, and no dot of an accepted patch, names an id then live
+--     Quiet        no accepted insert, no patch that laid a dot, no remove that said yes
 --     Promise, Demand3     THE STATEMENT: what holds after the list
 use mathlib.Core.Path.{_≡_}
 use mathlib.Core.Logic.{_⊎_}
@@ -19,10 +19,12 @@ use Rattle.model.specs.Lists.{count, filter}
 use Rattle.geometry.specs.Settings.{D}
 use Rattle.model.specs.declared.Dot.{Dot}
 use Rattle.model.specs.declared.Window.{Window}
+use Rattle.model.specs.declared.patch.Patch.{Patch}
 use Rattle.model.specs.Dots.{isHit}
 use Rattle.model.specs.Layout.{World}
 use Rattle.model.specs.declared.answers.Found.{Found}
 use Rattle.model.specs.Calls.{Reply, refused, tooMany, answered, Make, Insert, Remove, Cleanup, Query}
+use Rattle.model.specs.Patch.{patchDots, LayPatch}
 
 -- ---- calls and their replies
 
@@ -31,6 +33,7 @@ pub data Event : Type 0 where
   remove : ℕ → AABB → Reply Bool → Event
   cleanup : Reply Bool → Event
   query : Window → List ℕ → List ℕ → Reply Found → Event
+  patch : Patch → Reply ℕ → Event
 
 -- §12.1: the event can happen: the call, given the world w and its arguments, may leave w′ and give this reply
 abbrev pub Happens : World → Event → World → Type 0
@@ -38,6 +41,7 @@ Happens w (insert dot reply) w′ = Insert w dot w′ reply
 Happens w (remove id r reply) w′ = Remove w id r w′ reply
 Happens w (cleanup reply) w′ = Cleanup w w′ reply
 Happens w (query q row row′ reply) w′ = Query w q row w′ row′ reply
+Happens w (patch p reply) w′ = LayPatch w p w′ reply
 
 -- §12.2: each call gets what the one before left
 abbrev pub Run : World → List Event → World → Type 0
@@ -68,6 +72,7 @@ entered b (insert dot reply) = cond (accepted reply) (dot ∷ b) b
 entered b (remove id r reply) = cond (saidYes reply) (without id b) b
 entered b (cleanup reply) = b
 entered b (query q row row′ reply) = b
+entered b (patch p reply) = cond (accepted reply) (patchDots p ++ b) b
 
 abbrev pub bookAfter : List Dot → List Event → List Dot
 bookAfter b [] = b
@@ -86,12 +91,13 @@ Has d (e ∷ es) = (e ≡ d) ⊎ Has d es
 abbrev pub Live : ℕ → List Dot → Type 0
 Live id b = (d : Dot) × Has d b × (d .id ≡ id)
 
--- §12.6: an accepted insert has an id that is not live then
+-- §12.6, §20.6: an accepted insert has an id that is not live then; so has each dot of an accepted patch
 abbrev pub Fine : List Dot → Event → Type 0
 Fine b (insert dot reply) = accepted reply ≡ true → ¬ Live (dot .id) b
 Fine b (remove id r reply) = Unit {0}
 Fine b (cleanup reply) = Unit {0}
 Fine b (query q row row′ reply) = Unit {0}
+Fine b (patch p reply) = accepted reply ≡ true → (d : Dot) → Has d (patchDots p) → ¬ Live (d .id) b
 
 abbrev pub DistinctFrom : List Dot → List Event → Type 0
 DistinctFrom b [] = Unit {0}
@@ -102,12 +108,19 @@ Distinct es = DistinctFrom [] es
 
 -- ---- after the list
 
--- §12.10: no accepted insert, no remove that says yes
+-- §20.4: how many dots a patch laid
+abbrev pub laidBy : Reply ℕ → ℕ
+laidBy (refused k) = 0
+laidBy (tooMany n) = 0
+laidBy (answered number) = number
+
+-- §12.10, §20.6: no accepted insert, no remove that says yes; each dot of a patch counts as an insert
 abbrev pub Still : Event → Type 0
 Still (insert dot reply) = accepted reply ≡ false
 Still (remove id r reply) = saidYes reply ≡ false
 Still (cleanup reply) = Unit {0}
 Still (query q row row′ reply) = Unit {0}
+Still (patch p reply) = laidBy reply ≡ 0
 
 abbrev pub Quiet : List Event → Type 0
 Quiet [] = Unit {0}
@@ -119,6 +132,7 @@ cleanups (insert dot reply ∷ es) = cleanups es
 cleanups (remove id r reply ∷ es) = cleanups es
 cleanups (cleanup reply ∷ es) = 1 + cleanups es
 cleanups (query q row row′ reply ∷ es) = cleanups es
+cleanups (patch p reply ∷ es) = cleanups es
 
 -- ---- the demand
 

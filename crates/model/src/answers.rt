@@ -58,3 +58,9 @@ pub enum GridAnswer {
     TooMany(u32),
     Counted(u64),
 }
+
+// The number of dots laid, and the state after them.
+pub enum PatchAnswer {
+    Refused(u32),
+    Laid(u32, State),
+}

@@ -1,10 +1,10 @@
 -- A tree in the rows, as the walks meet it, and its nodes.
 --     sumNodes, nodeCount  a weight summed over the nodes; how often a node stands in the tree
 --     nodeTotal    how many nodes the tree has
---     overGroup    a weight summed over the nodes of a group
+--     overGroup    a weight summed over the nodes of a group; sumLast: over its last children
 --     TreeStands   the tree stands at a node, in rows that have its nodes and places
 use mathlib.Core.List.{List}
-use Prim.Native.Nat.{ℕ, _+_, _≤_, _<_}
+use Prim.Native.Nat.{ℕ, zero, suc, _+_, _-_, _≤_, _<_}
 use lib.IntN.{ℤ}
 use Rattle.model.specs.Sums.{indicator, sumBelow}
 use Rattle.model.specs.Trees.{Tree, leaf, branch, childNode, Placed, AllDots, Shallow, size}
@@ -21,6 +21,11 @@ nodeCount k a t = sumNodes (indicator k) a t
 abbrev pub nodeTotal : Tree → ℕ
 nodeTotal (leaf chain) = 1
 nodeTotal (branch g f) = 1 + sumBelow 5 (λ i. nodeTotal (f i))
+
+-- over the children of a group from 5 - left on
+abbrev pub sumLast : ℕ → (ℕ → ℕ) → ℕ
+sumLast zero f = 0
+sumLast (suc left) f = f (5 - suc left) + sumLast left f
 
 -- the nodes of a group
 abbrev pub overGroup : (ℕ → ℕ) → ℕ → ℕ

@@ -11,7 +11,7 @@ ghost use Rattle.tree.specs.Operations.{IsTree, CarriedOut};
 ghost use Rattle.tree_insert.specs.Push.{CanPush, pushedNodes, pushedDots, pushedRects};
 ghost use Rattle.tree_insert.specs.InsertAt.{Starts, CanInsert};
 
-mod needed;
+pub mod needed;
 mod split;
 
 use crate::needed::Needed;

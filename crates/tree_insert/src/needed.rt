@@ -28,7 +28,7 @@ pub fn must_split(settings: Settings, node_data: NodeData, count: u32) -> bool
 }
 
 // How many dots of a chain lie within bounds.
-fn count_within(dots: &[u32], rects: &[i32], chain: Node, bounds: Bounds) -> u32
+pub fn count_within(dots: &[u32], rects: &[i32], chain: Node, bounds: Bounds) -> u32
     requires { ⌜ SomeChain (now dots) (now rects) (chain .first) (chain .count) ⌝ }
     ensures { λ r. ⌜ ((ds : List Placed) → ChainStands (now (dots .entry)) (now (rects .entry)) (chain .first) (chain .count) ds
         → r ≡ sumOver (within bounds) ds) ⌝ }

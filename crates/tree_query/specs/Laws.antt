@@ -1,6 +1,6 @@
 -- Laws of the reading calls.
 --     Rows         the written row: its length, two lists of words, room for all
---     Children     joins and sums over the last children of a group
+--     Children     joins over the last children of a group
 --     Found        one walk after another; no more is found than there is
 --     Chains       the loop over a chain
 --     Nodes        a node: its chain, or its group

@@ -1,5 +1,5 @@
 -- What the query's walk (§8.2, §8.3) asks of the words, and what it leaves.
---     joinLast, sumLast            over the last children of a group
+--     joinLast                     over the last children of a group
 --     chainHits, groupHits, groupOpened    what a walk lists and opens
 --     nextOpened                   the first of the children left that is opened
 --     after, rowAfter, Left        what it has found, and the row, once some dots are listed and some nodes opened
@@ -26,7 +26,7 @@ use Rattle.model.specs.Trees.{Placed, Tree, childNode, size}
 use Rattle.model.specs.Query.{hits, opened}
 use Rattle.model.specs.Layout.{none}
 use Rattle.model.specs.Memory.{read, Chained}
-use Rattle.tree.specs.Trees.{InRows, nodeTotal, TreeStands}
+use Rattle.tree.specs.Trees.{InRows, nodeTotal, sumLast, TreeStands}
 use Rattle.model.specs.declared.answers.Found.{Found}
 use Rattle.tree_query.specs.Rows.{kept, keptAll}
 
@@ -34,10 +34,6 @@ use Rattle.tree_query.specs.Rows.{kept, keptAll}
 abbrev pub joinLast : {A : Type 0} → ℕ → (ℕ → List A) → List A
 joinLast zero f = []
 joinLast (suc left) f = f (5 - suc left) ++ joinLast left f
-
-abbrev pub sumLast : ℕ → (ℕ → ℕ) → ℕ
-sumLast zero f = 0
-sumLast (suc left) f = f (5 - suc left) + sumLast left f
 
 -- ---- what a walk meets
 

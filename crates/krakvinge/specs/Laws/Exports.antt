@@ -1,9 +1,10 @@
 -- Laws of the exported calls.
 --     exported-other       rows of another length
 --     exported-changed, exported-read      THE PATTERN: a call that may change the state, and one that reads
+--     patch-bad, patch-good        refusal 13, and any other patch
 --     check-other, check-row, make-other, make-row     the same for the check and make
 use mathlib.Core.Path.{_≡_, refl, sym, _∙_, subst}
-use mathlib.Core.List.{List}
+use mathlib.Core.List.{List, []}
 use mathlib.Core.Bool.{Bool, true, false, not}
 use Prim.Native.Nat.{ℕ}
 use lib.IntN.{ℤ}
@@ -11,13 +12,15 @@ use lib.ListN.{length}
 use Rattle.arithmetic.specs.Laws.Tests.{true-false}
 use Rattle.geometry.specs.declared.settings.Settings.{Settings}
 use Rattle.model.specs.declared.State.{State}
+use Rattle.model.specs.declared.patch.Patch.{Patch}
+use Rattle.model.specs.Patch.{patchFits, LayPatch}
 use Rattle.model.specs.declared.answers.MakeAnswer.{MakeAnswer}
 use Rattle.model.specs.Answers.{makeReply, makeState}
 use Rattle.model.specs.Layout.{World, world}
 use Rattle.model.specs.Calls.{Reply, Make}
 use Rattle.tree_check.specs.Checks.{Checked}
-use Rattle.krakvinge.specs.Rows.{settingsIn, stateIn}
-use Rattle.krakvinge.specs.Exports.{Lent, worldOf, resultOf, stateRow, Out, Exported, madeRow, Makes, Checks}
+use Rattle.krakvinge.specs.Rows.{settingsIn, stateIn, rowsFit}
+use Rattle.krakvinge.specs.Exports.{Lent, worldOf, resultOf, stateRow, number, Out, Exported, LaysPatch, madeRow, Makes, Checks}
 use Rattle.krakvinge.specs.Laws.Rows.{unfit, fit, kept-row}
 
 module _ {B A : Type 0} {fits : Bool} {words : A → List ℕ} {says : World → List B → World → List B → Reply A → Type 0} where
@@ -44,6 +47,18 @@ module _ {B A : Type 0} {fits : Bool} {words : A → List ℕ} {says : World →
         → l′ .state ≡ l .state → Out words reply (l .answer) (l′ .answer) result
         → Exported fits words says l row l′ row′ result
     exported-read reply test n e said state out = exported-changed (λ t. t) reply test n e said (state ∙ kept-row (l .state) reply) out
+
+-- ---- the patch
+
+module _ {p : Patch} {l : Lent} {b : Bool} (test : b ≡ patchFits p) where
+  pub patch-bad : not b ≡ true → LaysPatch p l l 13
+  patch-bad n = record { badPatch = λ _. (refl, refl); goodPatch = λ e. true-false (sym e ∙ unfit test n) }
+
+  pub patch-good : not b ≡ false → {l′ : Lent} {result : ℕ}
+      → Exported (rowsFit (l .state) (l .answer)) number (λ (w : World) (row : List ℕ) (w′ : World) (row′ : List ℕ)
+      (reply : Reply ℕ). LayPatch w p w′ reply) l [] l′ [] result
+      → LaysPatch p l l′ result
+  patch-good n done = record { badPatch = λ e. true-false (sym (fit test n) ∙ e); goodPatch = λ _. done }
 
 -- ---- the check and make
 

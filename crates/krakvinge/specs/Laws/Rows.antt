@@ -3,7 +3,7 @@
 --     unfit, fit, ten, two, ten-two    what the code's test of the lengths says
 --     answer-words     an answer row that is written
 --     keeps-state, kept-row    a row that is written with what it holds is as it was
---     told, told-grid      a rectangle by the four numbers of a call, a grid by the six
+--     told, told-grid, told-patch  a rectangle by the four numbers of a call, a grid and a patch by the six
 use mathlib.Core.Path.{_≡_, refl, sym, _∙_}
 use mathlib.Core.List.{List, [], _∷_}
 use mathlib.Core.Bool.{Bool, true, false, not}
@@ -20,7 +20,7 @@ use borrow.Author.Tests.{lt-ltb, le-ltb, eqb-true, not-true, not-false}
 use Rattle.arithmetic.specs.Laws.Linear.{and-t, ints, dif, nat-eq, fits32, fits64}
 use Rattle.model.specs.declared.State.{State}
 use Rattle.model.specs.Calls.{Reply, refused, tooMany, answered}
-use Rattle.krakvinge.specs.Rows.{signed, stateIn, withState, rowsFit, rectOf, gridOf}
+use Rattle.krakvinge.specs.Rows.{signed, stateIn, withState, rowsFit, rectOf, gridOf, patchOf}
 use Rattle.krakvinge.specs.Exports.{stateRow}
 
 pub signed-near : (w : ℕ) → w < 2147483648 → signed w ≡ pos w
@@ -86,3 +86,7 @@ pub told-grid : {x y width height columns rows : ℤ} → SFits w32 x → SFits 
     → gridOf (toZ w32 (ofZ w32 x)) (toZ w32 (ofZ w32 y)) (toZ w32 (ofZ w32 width)) (toZ w32 (ofZ w32 height)) (toZ w32 (ofZ w32 columns))
     (toZ w32 (ofZ w32 rows)) ≡ gridOf x y width height columns rows
 told-grid a b c d e f = rw (toZ-ofZ a, toZ-ofZ b, toZ-ofZ c, toZ-ofZ d, toZ-ofZ e, toZ-ofZ f) refl
+
+pub told-patch : {x y : ℤ} {columns rows tint first : ℕ} → SFits w32 x → SFits w32 y
+    → patchOf (toZ w32 (ofZ w32 x)) (toZ w32 (ofZ w32 y)) columns rows tint first ≡ patchOf x y columns rows tint first
+told-patch a b = rw (toZ-ofZ a, toZ-ofZ b) refl

@@ -4,7 +4,7 @@
 --     Told, book-told      the book is told arguments, accepted and yes alone (§12.4): nothing else of an event makes a difference
 use mathlib.Core.Path.{_≡_, refl, ap, sym, _∙_}
 use mathlib.Core.Logic.{inl, inr, ⊎-elim}
-use mathlib.Core.List.{List, [], _∷_, map}
+use mathlib.Core.List.{List, [], _∷_, _++_, map}
 use mathlib.Core.Bool.{Bool, true, cond}
 use Prim.Native.Nat.{ℕ, _≤_}
 use native.Mathlib.Decide.{ℕ-discrete, decLe}
@@ -14,6 +14,7 @@ use borrow.Author.Tests.{eqb-true}
 use Rattle.arithmetic.specs.Laws.Tests.{byBool}
 use Rattle.model.specs.declared.Dot.{Dot}
 use Rattle.model.specs.declared.Window.{Window}
+use Rattle.model.specs.declared.patch.Patch.{Patch}
 use Rattle.model.specs.Sums.{indicator, sumOver}
 use Rattle.model.specs.Lists.{All}
 use Rattle.model.specs.Laws.Sums.{indicator-same, indicator-other, byDec}
@@ -21,7 +22,8 @@ use Rattle.model.specs.Laws.Lists.{filter-le, sum-filter}
 use Rattle.model.specs.Dots.{isHit}
 use Rattle.model.specs.Trees.{Placed, Tree, sumDots, dots}
 use Rattle.model.specs.Laws.Trees.{sumDots-dots}
-use Rattle.model.specs.Book.{Event, insert, remove, cleanup, query, accepted, saidYes, without, entered, bookAfter, Has, Live, meeting}
+use Rattle.model.specs.Patch.{patchDots}
+use Rattle.model.specs.Book.{Event, insert, remove, cleanup, query, patch, accepted, saidYes, without, entered, bookAfter, Has, Live, meeting}
 use Rattle.model.specs.Laws.Dots.{onDot, idIs, dotIs, sameRect-same}
 
 -- h, but 0 at the id k
@@ -98,6 +100,7 @@ meeting-le q k b = filter-le (idIs k) (isHit q) b
 
 pub data Told : Type 0 where
   put : Dot → Bool → Told
+  tinted : Patch → Bool → Told
   taken : ℕ → Bool → Told
   nothing : Told
 
@@ -106,9 +109,11 @@ toldOf (insert dot reply) = put dot (accepted reply)
 toldOf (remove id r reply) = taken id (saidYes reply)
 toldOf (cleanup reply) = nothing
 toldOf (query q row row′ reply) = nothing
+toldOf (patch p reply) = tinted p (accepted reply)
 
 abbrev heard : List Dot → Told → List Dot
 heard b (put dot yes?) = cond yes? (dot ∷ b) b
+heard b (tinted p yes?) = cond yes? (patchDots p ++ b) b
 heard b (taken id yes?) = cond yes? (without id b) b
 heard b nothing = b
 
@@ -117,6 +122,7 @@ entered-told b (insert dot reply) = refl
 entered-told b (remove id r reply) = refl
 entered-told b (cleanup reply) = refl
 entered-told b (query q row row′ reply) = refl
+entered-told b (patch p reply) = refl
 
 -- two lists of events that tell the book the same give the same book
 pub book-told : (es fs : List Event) (b : List Dot) → map toldOf es ≡ map toldOf fs → bookAfter b es ≡ bookAfter b fs

@@ -1,6 +1,7 @@
 -- Laws of the calls on a world that is a tree: what each leaves, by the cases of its rule.
---     insert-cases, insert-refused, insert-accepted
---     remove-no, remove-yes; cleanup-done; query-short, query-done, query-holds
+--     insert-cases         what an insert needs is there, or it is refused
+--     left-refused, left-overflow, left-accepted   what a verdict leaves
+--     remove-no, remove-yes, cleanup-done, query-short, query-done
 use mathlib.Core.Path.{_≡_, refl, ap, sym, _∙_, subst}
 use mathlib.Core.Logic.{_⊎_, inl, inr}
 use mathlib.Core.List.{List, [], _++_}
@@ -22,11 +23,10 @@ use Rattle.model.specs.Trees.{size}
 use Rattle.model.specs.Shapes.{Shape, Valid, inserted, splitsMade, splitsNeeded, removed, foundBy, cleaned, cleans, listed, opensFor}
 use Rattle.model.specs.Layout.{World, Holds}
 use Rattle.model.specs.declared.answers.Found.{Found}
-use Rattle.model.specs.Calls.{Reply, tooMany, answered, refuse, overflow, accept, Exit, exit, carriedOut, insertRule}
-use Rattle.model.specs.Calls.{removeRule, cleanupRule, queryRule, Insert, Remove, Cleanup, Query}
-use Rattle.model.specs.Book.{accepted}
+use Rattle.model.specs.Calls.{Reply, refused, tooMany, answered, Verdict, refuse, overflow, accept, Exit, exit, carriedOut, insertRule}
+use Rattle.model.specs.Calls.{removeRule, cleanupRule, queryRule, Remove, Cleanup, Query}
 use borrow.Author.Tests.{eq-eqb, ltb-false}
-use Rattle.model.specs.Laws.Shapes.{live-and-free, inserted-valid, removed-valid, cleaned-valid}
+use Rattle.model.specs.Laws.Shapes.{live-and-free, removed-valid, cleaned-valid}
 use Rattle.model.specs.Laws.Layout.{layout-holds, cleared-holds, obeys-tree}
 
 -- the insert is refused, or what it needs is there
@@ -70,75 +70,67 @@ module _ {B A : Type 0} where
   pub reply-of : {e f : Exit B A} → e ≡ f → e .reply ≡ f .reply
   reply-of p = ap (λ e. e .reply) p
 
--- the insert refused: the shape is as it was
-module _ (w : World) (dot : Dot) (v : World) (reply : Reply ℕ) (call : Insert w dot v reply) (x : Shape) (h : Holds w x) where
-  pub insert-exit : exit v [] reply ≡ carriedOut w [] (insertRule dot x)
-  unfolding Insert
-  insert-exit = obeys-tree (insertRule dot) w [] (exit v [] reply) call x h
+-- ---- what a verdict leaves
 
-  pub insert-refused : (k : ℕ) → insertRule dot x ≡ refuse k → Holds v x × (accepted reply ≡ false)
-  insert-refused k e =
-      let p = insert-exit ∙ ap (carriedOut w []) e in
-      (subst (λ (u : World). Holds u x) (sym (world-of p)) (cleared-holds w x h), ap accepted (reply-of p))
+module _ {B A : Type 0} (w : World) (row : List B) (v : World) (row′ : List B) (reply : Reply A) (x : Shape) (h : Holds w x) (verdict : Verdict B A)
+    (left : exit v row′ reply ≡ carriedOut w row verdict) where
+  pub left-refused : (k : ℕ) → verdict ≡ refuse k → Holds v x × (reply ≡ refused k)
+  left-refused k e =
+      let p = left ∙ ap (carriedOut w row) e in
+      (subst (λ (u : World). Holds u x) (sym (world-of p)) (cleared-holds w x h), reply-of p)
 
-  pub insert-accepted : Goes dot x → Holds v (inserted dot x) × (accepted reply ≡ true)
-  insert-accepted g =
-      let p = insert-exit ∙ ap (carriedOut w []) (g .3) in
-      let y = inserted dot x in (
-        subst (λ (u : World). Holds u y) (sym (world-of p)) (layout-holds y (inserted-valid dot x (h .valid) (g .0) (g .1) (g .2))),
-        ap accepted (reply-of p),
-      )
+  pub left-overflow : (n : ℕ) → verdict ≡ overflow n → Holds v x × (reply ≡ tooMany n)
+  left-overflow n e =
+      let p = left ∙ ap (carriedOut w row) e in
+      (subst (λ (u : World). Holds u x) (sym (world-of p)) (cleared-holds w x h), reply-of p)
+
+  pub left-accepted : (y : Shape) (words : List B) (a : A) → verdict ≡ accept y words a → Valid y
+      → Holds v y × (reply ≡ answered a) × (row′ ≡ words ++ drop (length words) row)
+  left-accepted y words a e valid =
+      let p = left ∙ ap (carriedOut w row) e in
+      (subst (λ (u : World). Holds u y) (sym (world-of p)) (layout-holds y valid), reply-of p, row-of p)
+
+-- ---- the calls
 
 module _ (w : World) (id : ℕ) (r : AABB) (v : World) (reply : Reply Bool) (call : Remove w id r v reply) (x : Shape) (h : Holds w x) where
-  pub remove-exit : exit v [] reply ≡ carriedOut w [] (removeRule id r x)
+  remove-exit : exit v [] reply ≡ carriedOut w [] (removeRule id r x)
   unfolding Remove
   remove-exit = obeys-tree (removeRule id r) w [] (exit v [] reply) call x h
 
   pub remove-no : foundBy id r x ≡ false → Holds v x × (reply ≡ answered false)
   unfolding removeRule
   remove-no e =
-      let z : removeRule id r x ≡ accept x [] false = rw e refl in
-      let p = remove-exit ∙ ap (carriedOut w []) z in
-      (subst (λ (u : World). Holds u x) (sym (world-of p)) (layout-holds x (h .valid)), reply-of p)
+      let a = left-accepted w [] v [] reply x h (removeRule id r x) remove-exit x [] false (rw e refl) (h .valid) in (a .0, a .1)
 
   pub remove-yes : foundBy id r x ≡ true → Holds v (removed id r x) × (reply ≡ answered true)
   unfolding removeRule
   remove-yes e =
       let y = removed id r x in
-      let z : removeRule id r x ≡ accept y [] true = rw e refl in
-      let p = remove-exit ∙ ap (carriedOut w []) z in
-      (subst (λ (u : World). Holds u y) (sym (world-of p)) (layout-holds y (removed-valid id r x (h .valid) e)), reply-of p)
+      let a = left-accepted w [] v [] reply x h (removeRule id r x) remove-exit y [] true (rw e refl) (removed-valid id r x (h .valid) e) in
+      (a .0, a .1)
 
 pub cleanup-done : (w v : World) (reply : Reply Bool) → Cleanup w v reply → (x : Shape) → Holds w x → Holds v (cleaned x) × (reply ≡ answered (cleans x))
 unfolding Cleanup cleanupRule
 cleanup-done w v reply call x h =
-    let p = obeys-tree cleanupRule w [] (exit v [] reply) call x h in
-    let y = cleaned x in
-    (subst (λ (u : World). Holds u y) (sym (world-of p)) (layout-holds y (cleaned-valid x (h .valid))), reply-of p)
+    let left = obeys-tree cleanupRule w [] (exit v [] reply) call x h in
+    let a = left-accepted w [] v [] reply x h (cleanupRule x) left (cleaned x) [] (cleans x) refl (cleaned-valid x (h .valid)) in
+    (a .0, a .1)
 
 module _ (w : World) (q : Window) (row : List ℕ) (v : World) (row′ : List ℕ) (reply : Reply Found) (call : Query w q row v row′ reply)
     (x : Shape) (h : Holds w x) where
-  pub query-exit : exit v row′ reply ≡ carriedOut w row (queryRule q (length row) x)
+  query-exit : exit v row′ reply ≡ carriedOut w row (queryRule q (length row) x)
   unfolding Query
   query-exit = obeys-tree (queryRule q (length row)) w row (exit v row′ reply) call x h
 
   -- too short a row
   pub query-short : ltb (length row) (length (listed q x)) ≡ true → Holds v x × (reply ≡ tooMany (length (listed q x)))
   unfolding queryRule
-  query-short e =
-      let z : queryRule q (length row) x ≡ overflow (length (listed q x)) = rw e refl in
-      let p = query-exit ∙ ap (carriedOut w row) z in
-      (subst (λ (u : World). Holds u x) (sym (world-of p)) (cleared-holds w x h), reply-of p)
+  query-short e = left-overflow w row v row′ reply x h (queryRule q (length row) x) query-exit (length (listed q x)) (rw e refl)
 
   pub query-done : ltb (length row) (length (listed q x)) ≡ false
       → Holds v x × (reply ≡ answered (record { hits = length (listed q x); opened = opensFor (q .rect) x }))
       × (row′ ≡ listed q x ++ drop (length (listed q x)) row)
   unfolding queryRule
   query-done e =
-      let a : Found = record { hits = length (listed q x); opened = opensFor (q .rect) x } in
-      let z : queryRule q (length row) x ≡ accept x (listed q x) a = rw e refl in
-      let p = query-exit ∙ ap (carriedOut w row) z in
-      (subst (λ (u : World). Holds u x) (sym (world-of p)) (layout-holds x (h .valid)), reply-of p, row-of p)
-
-  pub query-holds : Holds v x
-  query-holds = byBool (ltb (length row) (length (listed q x))) (λ e. query-short e .0) (λ e. query-done e .0)
+      left-accepted w row v row′ reply x h (queryRule q (length row) x) query-exit
+      x (listed q x) (record { hits = length (listed q x); opened = opensFor (q .rect) x }) (rw e refl) (h .valid)

@@ -1,18 +1,21 @@
 -- The conditions of §12.6 and §12.10, both ways round: what a list must be, and nothing else.
---     fine-exactly     an event is fine exactly if it is no accepted insert of an id then live
---     still-exactly    an event is still exactly if it is no accepted insert and no remove that said yes
+--     fine-exactly     an event is fine exactly if it is no accepted insert of an id then live, and no accepted patch with a dot of such an id
+--     still-exactly    an event is still exactly if it is no accepted insert, no remove that said yes, and no patch that laid a dot
 --     distinct-exactly, quiet-exactly      a list, by each of its events
 use mathlib.Core.Path.{_≡_, refl, ap, sym, subst}
 use mathlib.Core.Logic.{_↔_}
 use mathlib.Core.List.{List, [], _∷_, _++_}
 use mathlib.Core.Bool.{true, false}
-use Prim.Native.Nat.{ℕ}
+use Prim.Native.Nat.{ℕ, zero, suc}
 use native.Mathlib.Omega.{arith}
 use Rattle.arithmetic.specs.Laws.Tests.{true-false}
 use Rattle.geometry.specs.declared.aabb.AABB.{AABB}
 use Rattle.model.specs.declared.Dot.{Dot}
+use Rattle.model.specs.declared.patch.Patch.{Patch}
+use Rattle.model.specs.Patch.{patchDots}
 use Rattle.model.specs.Calls.{refused, tooMany, answered}
-use Rattle.model.specs.Book.{Event, insert, remove, cleanup, query, entered, bookAfter, book, Live, Fine, DistinctFrom, Distinct, Still, Quiet}
+use Rattle.model.specs.Book.{Event, insert, remove, cleanup, query, patch, entered, bookAfter, book}
+use Rattle.model.specs.Book.{Has, Live, Fine, DistinctFrom, Distinct, Still, Quiet}
 
 -- two constructors are never equal
 no : {A : Type 0} → _≡_ {A = ℕ} 0 1 → A
@@ -20,29 +23,57 @@ no z = absurd (omega arith)
 
 -- ---- one event
 
-pub fine-exactly : (b : List Dot) (e : Event) → Fine b e ↔ ((dot : Dot) (n : ℕ) → e ≡ insert dot (answered n) → ¬ Live (dot .id) b)
-fine-exactly b (insert dot (answered n)) =
-    ((λ f d m p live. let same : d ≡ dot = cc in f refl (subst (λ (x : Dot). Live (x .id) b) same live)), λ f _. f dot n refl)
-fine-exactly b (insert dot (refused k)) = ((λ f d m p. no (cc)), λ f e. true-false (sym e))
-fine-exactly b (insert dot (tooMany k)) = ((λ f d m p. no (cc)), λ f e. true-false (sym e))
-fine-exactly b (remove id r reply) = ((λ f d m p. no (cc)), λ f. tt)
-fine-exactly b (cleanup reply) = ((λ f d m p. no (cc)), λ f. tt)
-fine-exactly b (query q row row′ reply) = ((λ f d m p. no (cc)), λ f. tt)
+-- e is no accepted insert of a live id, and no accepted patch with a dot of a live id
+abbrev pub NoneLive : List Dot → Event → Type 0
+NoneLive b e =
+    ((dot : Dot) (n : ℕ) → e ≡ insert dot (answered n) → ¬ Live (dot .id) b)
+    × ((p : Patch) (n : ℕ) → e ≡ patch p (answered n) → (d : Dot) → Has d (patchDots p) → ¬ Live (d .id) b)
 
--- e is no accepted insert and no remove that said yes
+fine-if : (b : List Dot) (e : Event) → NoneLive b e → Fine b e
+fine-if b (insert dot (answered n)) f = λ a. f .0 dot n refl
+fine-if b (insert dot (refused k)) f = λ a. true-false (sym a)
+fine-if b (insert dot (tooMany k)) f = λ a. true-false (sym a)
+fine-if b (remove id r reply) f = tt
+fine-if b (cleanup reply) f = tt
+fine-if b (query q row row′ reply) f = tt
+fine-if b (patch p (answered n)) f = λ a. f .1 p n refl
+fine-if b (patch p (refused k)) f = λ a. true-false (sym a)
+fine-if b (patch p (tooMany k)) f = λ a. true-false (sym a)
+
+pub fine-exactly : (b : List Dot) (e : Event) → Fine b e ↔ NoneLive b e
+fine-exactly b e = ((λ f. ((λ dot n s. subst (Fine b) s f refl), λ p n s. subst (Fine b) s f refl)), fine-if b e)
+
+-- e is no accepted insert, no remove that said yes, and no patch that laid a dot
 abbrev pub NoChange : Event → Type 0
-NoChange e = ((dot : Dot) (n : ℕ) → e ≡ insert dot (answered n) → ⊥) × ((id : ℕ) (r : AABB) → e ≡ remove id r (answered true) → ⊥)
+NoChange e =
+    ((dot : Dot) (n : ℕ) → e ≡ insert dot (answered n) → ⊥)
+    × ((id : ℕ) (r : AABB) → e ≡ remove id r (answered true) → ⊥)
+    × ((p : Patch) (n : ℕ) → e ≡ patch p (answered (suc n)) → ⊥)
+
+still-if : (e : Event) → NoChange e → Still e
+still-if (insert dot (answered n)) f = absurd (f .0 dot n refl)
+still-if (insert dot (refused k)) f = refl
+still-if (insert dot (tooMany k)) f = refl
+still-if (remove id r (answered true)) f = absurd (f .1 id r refl)
+still-if (remove id r (answered false)) f = refl
+still-if (remove id r (refused k)) f = refl
+still-if (remove id r (tooMany k)) f = refl
+still-if (cleanup reply) f = tt
+still-if (query q row row′ reply) f = tt
+still-if (patch p (answered zero)) f = refl
+still-if (patch p (answered (suc n))) f = absurd (f .2 p n refl)
+still-if (patch p (refused k)) f = refl
+still-if (patch p (tooMany k)) f = refl
 
 pub still-exactly : (e : Event) → Still e ↔ NoChange e
-still-exactly (insert dot (answered n)) = ((λ s. true-false s), λ f. absurd (f .0 dot n refl))
-still-exactly (insert dot (refused k)) = ((λ s. ((λ d n p. no (cc)), λ i q p. no (cc))), λ f. refl)
-still-exactly (insert dot (tooMany k)) = ((λ s. ((λ d n p. no (cc)), λ i q p. no (cc))), λ f. refl)
-still-exactly (remove id r (answered true)) = ((λ s. true-false s), λ f. absurd (f .1 id r refl))
-still-exactly (remove id r (answered false)) = ((λ s. ((λ d n p. no (cc)), λ i q p. no (cc))), λ f. refl)
-still-exactly (remove id r (refused k)) = ((λ s. ((λ d n p. no (cc)), λ i q p. no (cc))), λ f. refl)
-still-exactly (remove id r (tooMany k)) = ((λ s. ((λ d n p. no (cc)), λ i q p. no (cc))), λ f. refl)
-still-exactly (cleanup reply) = ((λ s. ((λ d n p. no (cc)), λ i q p. no (cc))), λ f. tt)
-still-exactly (query q row row′ reply) = ((λ s. ((λ d n p. no (cc)), λ i r p. no (cc))), λ f. tt)
+still-exactly e = (
+  (λ q. (
+    (λ dot n s. true-false (subst Still s q)),
+    (λ id r s. true-false (subst Still s q)),
+    λ p n s. absurd (omega (arith, subst Still s q)),
+  )),
+  still-if e,
+)
 
 -- ---- a list
 

@@ -1,5 +1,5 @@
 -- Laws of what the calls ask of a dot.
---     dot-upright  an acceptable dot's rectangle passes refusal 4
+--     rect-upright, dot-upright    an acceptable rectangle, and an acceptable dot's, passes refusal 4
 --     hit-apart, hit-by-ink        whether a query lists a dot, by the rectangles first
 --     hit-opens    a query opens the child that a dot which it lists goes to
 --     match-id, id-match   a remove takes just the dots of its id
@@ -12,8 +12,7 @@ use Prim.Native.Nat.{ℕ}
 use lib.IntN.{ℤ}
 use borrow.Author.Tests.{eqb-true, eq-eqb, not-true, not-false}
 use Rattle.arithmetic.specs.Ints.{eqZ}
-use Rattle.arithmetic.specs.Laws.Linear.{eq-t, t-eq, nat-eq, and-t}
-use Rattle.arithmetic.specs.Laws.Tests.{true-false}
+use Rattle.arithmetic.specs.Laws.Linear.{eq-t, t-eq, nat-eq, and-t, or-f}
 use Rattle.geometry.specs.declared.aabb.AABB.{AABB}
 use Rattle.geometry.specs.declared.node_data.NodeData.{NodeData}
 use Rattle.geometry.specs.declared.settings.Settings.{Settings}
@@ -27,16 +26,14 @@ use Rattle.model.specs.Sums.{indicator}
 use Rattle.model.specs.Dots.{goodInk, acceptableDot, shows, isHit, matches}
 use Rattle.model.specs.Trees.{Placed}
 
+pub rect-upright : (s : Settings) (r : AABB) → acceptable s r ≡ true → (inverted r ≡ false) × (farOut r ≡ false)
+unfolding acceptable
+rect-upright s r e =
+    or-f (inverted r) (farOut r) (not-true (inverted r || farOut r) (and-t (not (inverted r || farOut r)) (contains (rootOf s) r) e .0))
+
 pub dot-upright : (s : Settings) (d : Dot) → acceptableDot s d ≡ true → (inverted (d .rect) ≡ false) × (farOut (d .rect) ≡ false)
-unfolding acceptable acceptableDot
-dot-upright s d e =
-    let r = d .rect in
-    let good = and-t (acceptable s r) (goodInk d) e .0 in
-    or-false (inverted r) (farOut r) (not-true (inverted r || farOut r) (and-t (not (inverted r || farOut r)) (contains (rootOf s) r) good .0))
-  where
-    or-false : (a b : Bool) → a || b ≡ false → (a ≡ false) × (b ≡ false)
-    or-false true b p = true-false p
-    or-false false b p = (refl, p)
+unfolding acceptableDot
+dot-upright s d e = rect-upright s (d .rect) (and-t (acceptable s (d .rect)) (goodInk d) e .0)
 
 module _ (q : Window) (d : Dot) {b : Bool} (told : b ≡ intersects (q .rect) (d .rect)) where
   pub hit-apart : not b ≡ true → false ≡ isHit q d

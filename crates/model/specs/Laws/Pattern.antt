@@ -1,11 +1,12 @@
 -- A memory has one shape at most; so the pattern of the calls fixes what each call leaves.
 --     one-chain, one-tree, one-free    what is read from a link, a node, a head is one chain, one tree, one list
 --     holds-one    two shapes of one world are equal
---     obeys-fixed, make-fixed      two exits of one call are equal
+--     obeys-fixed, make-fixed, patch-fixed         two exits of one call are equal
 --     by-tree      a call on a tree: one shape tells what it leaves
+--     by-good-patch, by-bad-patch  a patch that refusal 13 lets pass, or not
 --     answered-tree        what is true of every tree that an accepted call can have been made on
 --     marks-cleared        the marks are 0 after each call not refused 1 or 2
---     refused-untouched    a refused call leaves state, nodes, dots and answers untouched (§11.7)
+--     refused-untouched, patch-untouched   a refused call leaves state, nodes, dots and answers untouched (§11.7)
 use mathlib.Core.Path.{_≡_, refl, ap, ap₂, sym, _∙_, subst, fun-ext}
 use mathlib.Core.Logic.{_≢_, _⊎_, ⊎-elim}
 use mathlib.Core.List.{List, [], _∷_, map}
@@ -27,6 +28,8 @@ use Rattle.model.specs.Memory.{Mem, memory, Chained, Represents, FreeGro
 use Rattle.geometry.specs.declared.settings.Settings.{Settings}
 use Rattle.geometry.specs.Settings.{inRange}
 use Rattle.model.specs.Calls.{Reply, refused, tooMany, answered, refusal, Verdict, refuse, overflow, accept, Exit, exit, carriedOut, Obeys, Make}
+use Rattle.model.specs.declared.patch.Patch.{Patch}
+use Rattle.model.specs.Patch.{patchFits, patchRule, LayPatch}
 use Rattle.model.specs.Laws.Memory.{holds-represented}
 
 placed-equal : (d e : Placed) → d .place ≡ e .place → d .dot ≡ e .dot → d ≡ e
@@ -141,6 +144,16 @@ make-fixed w s w₁ w₂ a b m n =
     same : {v : World} {c : Reply (Unit {0})} → (w₁ ≡ v) × (a ≡ c) → (w₂ ≡ v) × (b ≡ c) → (w₁ ≡ w₂) × (a ≡ b)
     same p q = (p .0 ∙ sym (q .0), p .1 ∙ sym (q .1))
 
+-- and of one patch
+pub patch-fixed : (w : World) (p : Patch) (w₁ w₂ : World) (a b : Reply ℕ) → ((x : Shape) × Holds w x) ⊎ ((x : Shape) → Holds w x → ⊥)
+    → LayPatch w p w₁ a → LayPatch w p w₂ b → (w₁ ≡ w₂) × (a ≡ b)
+patch-fixed w p w₁ w₂ a b tree? l m =
+    byBool (patchFits p)
+    (λ e.
+    let same = obeys-fixed true (patchRule p) w [] (exit w₁ [] a) (exit w₂ [] b) tree? (l .goodPatch e) (m .goodPatch e) in
+    (ap (λ f. f .world) same, ap (λ f. f .reply) same))
+    (λ e. let bad = l .badPatch e in let also = m .badPatch e in (bad .0 ∙ sym (also .0), bad .1 ∙ sym (also .1)))
+
 -- a call on a tree: the shape that is found tells what it leaves
 module _ {B A : Type 0} (fits : Bool) (rule : Shape → Verdict B A) (w : World) (row : List B) (e : Exit B A) where
   pub by-tree : lengthsRight w && fits ≡ true → inRange (w .state .settings) ≡ true → (x : Shape) → Holds w x → e ≡ carriedOut w row (rule x)
@@ -152,6 +165,14 @@ module _ {B A : Type 0} (fits : Bool) (rule : Shape → Verdict B A) (w : World)
         noTree = λ _ _ n. absurd (n x h);
         tree = λ _ _ y k. p ∙ ap (λ (z : Shape). carriedOut w row (rule z)) (holds-one w x y h k);
       }
+
+-- a patch, by the tests of its own
+module _ (w : World) (p : Patch) where
+  pub by-good-patch : (w′ : World) (reply : Reply ℕ) → patchFits p ≡ true → Obeys true (patchRule p) w [] (exit w′ [] reply) → LayPatch w p w′ reply
+  by-good-patch w′ reply e call = record { badPatch = λ f. true-false (sym e ∙ f); goodPatch = λ f. call }
+
+  pub by-bad-patch : patchFits p ≡ false → LayPatch w p w (refused 13)
+  by-bad-patch e = record { badPatch = λ f. (refl, refl); goodPatch = λ f. true-false (sym f ∙ e) }
 
 -- an accepted call was made on a tree
 abbrev isAnswered : {A : Type 0} → Reply A → Bool
@@ -214,6 +235,14 @@ refused-untouched fits rule w row e tree? o h =
     tree?)
     (λ s. same-exit w row e (exit w row (refused 2)) (o .badSettings l s) (kept w row (refused 2))))
     (λ l. same-exit w row e (exit w row (refused 1)) (o .badLength l) (kept w row (refused 1)))
+
+-- so does a refused patch
+pub patch-untouched : (w : World) (p : Patch) (v : World) (reply : Reply ℕ) → ((x : Shape) × Holds w x) ⊎ ((x : Shape) → Holds w x → ⊥)
+    → LayPatch w p v reply → 1 ≤ refusal reply → Untouched {B = ℕ} w [] (exit v [] reply)
+patch-untouched w p v reply tree? l h =
+    byBool (patchFits p)
+    (λ e. refused-untouched true (patchRule p) w [] (exit v [] reply) tree? (l .goodPatch e) h)
+    (λ e. rw (l .badPatch e .0) (kept w [] reply))
 
 zero-marks : {B A : Type 0} (w : World) (row : List B) (v : Verdict B A) → (n : ℕ) × (carriedOut w row v .world .marks ≡ replicate n 0)
 unfolding cleared layout

@@ -2,16 +2,16 @@
 --     byDec        by cases on a decision
 --     indicator-.. 1 at its number, 0 at any other
 --     sumOver-..   a sum over a list
---     sumBelow-..  a sum over the numbers below n: its terms, sums of sums, multiples, swapped with a sum over a list
+--     sumBelow-..  a sum over the numbers below n: its terms, sums of sums, multiples, swapped with a sum over a list, in parts, over a list's entries
 --     changed-..   one place of a function is changed, and what that does to a sum
 use mathlib.Core.Path.{_≡_, refl, ap, sym, _∙_, subst}
 use mathlib.Core.Logic.{_≢_}
 use mathlib.Core.List.{List, [], _∷_, _++_, map}
-use Prim.Native.Nat.{ℕ, zero, suc, _+_, _*_, _≤_, _<_, _-_}
-use native.Mathlib.Nat.{not-suc-le-zero, le-refl, mul-add, mul-zero}
+use Prim.Native.Nat.{ℕ, zero, suc, _+_, _*_, _≤_, _<_, _-_, _%_}
+use native.Mathlib.Nat.{not-suc-le-zero, le-refl, add-zero, add-suc, mul-add, mul-zero, mul-suc}
 use native.Mathlib.Decide.{ℕ-discrete, decLe}
 use native.Mathlib.Omega.{arith}
-use lib.ListN.{length}
+use lib.ListN.{length, getD}
 use borrow.Author.Tests.{eq-eqb, ne-eqb}
 use Rattle.model.specs.Sums.{indicator, sumOver, sumBelow, changed}
 
@@ -133,6 +133,40 @@ pub sumBelow-swap : {A : Type 0} (n : ℕ) (h : ℕ → A → ℕ) (xs : List A)
     → sumBelow n (λ k. sumOver (h k) xs) ≡ sumOver (λ a. sumBelow n (λ k. h k a)) xs
 sumBelow-swap n h [] = sumBelow-zero n (λ k. 0) (λ j b. refl)
 sumBelow-swap n h (x ∷ xs) = omega (arith, sumBelow-add n (λ k. h k x) (λ k. sumOver (h k) xs), sumBelow-swap n h xs)
+
+-- ---- a sum in parts
+
+pub sumBelow-plus : (a b : ℕ) (f : ℕ → ℕ) → sumBelow (a + b) f ≡ sumBelow a f + sumBelow b (λ i. f (a + i))
+sumBelow-plus a zero f = rw (add-zero a) (omega arith)
+sumBelow-plus a (suc b) f = rw (add-suc a b) (omega (arith, sumBelow-plus a b f))
+
+-- n terms at a time
+pub sumBelow-blocks : (n m : ℕ) (f : ℕ → ℕ) → sumBelow m (λ j. sumBelow n (λ i. f (n * j + i))) ≡ sumBelow (n * m) f
+sumBelow-blocks n zero f = rw (mul-zero n) refl
+sumBelow-blocks n (suc m) f = rw (mul-suc n m) (omega (arith, sumBelow-blocks n m f, sumBelow-plus (n * m) n f))
+
+-- terms that repeat every 16
+pub sumBelow-cycle : (m rest : ℕ) (g : ℕ → ℕ) → rest ≤ 16 → sumBelow (16 * m + rest) (λ i. g (i % 16)) ≡ m * sumBelow 16 g + sumBelow rest g
+sumBelow-cycle m rest g short =
+    let whole : sumBelow (16 * m) (λ i. g (i % 16)) ≡ m * sumBelow 16 g =
+    sym (sumBelow-blocks 16 m (λ i. g (i % 16)))
+    ∙ sumBelow-ext m (λ j. sumBelow 16 (λ i. g ((16 * j + i) % 16))) (λ j. sumBelow 16 g * 1)
+    (λ j b. sumBelow-ext 16 (λ i. g ((16 * j + i) % 16)) g (λ i h. ap g (omega arith)) ∙ omega arith)
+    ∙ sumBelow-mul m (sumBelow 16 g) (λ j. 1)
+    ∙ ap (λ (k : ℕ). sumBelow 16 g * k) (sumBelow-one m)
+    ∙ omega arith in
+    let end : sumBelow rest (λ i. g ((16 * m + i) % 16)) ≡ sumBelow rest g =
+    sumBelow-ext rest (λ i. g ((16 * m + i) % 16)) g (λ i h. ap g (omega arith)) in
+    omega (arith, sumBelow-plus (16 * m) rest (λ i. g (i % 16)), whole, end)
+
+-- over the entries of a list
+pub sumBelow-entries : (h : ℕ → ℕ) (ts : List ℕ) → sumBelow (length ts) (λ i. h (getD ts i 0)) ≡ sumOver h ts
+sumBelow-entries h [] = refl
+sumBelow-entries h (t ∷ ts) = first (length ts) (λ i. h (getD (t ∷ ts) i 0)) ∙ ap (λ (k : ℕ). h t + k) (sumBelow-entries h ts)
+  where
+    first : (n : ℕ) (f : ℕ → ℕ) → sumBelow (suc n) f ≡ f 0 + sumBelow n (λ i. f (suc i))
+    first zero f = omega arith
+    first (suc n) f = omega (arith, first n f)
 
 -- ---- one place of a function is changed
 

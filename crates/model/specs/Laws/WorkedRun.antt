@@ -4,7 +4,7 @@
 --     happens      it happens: the rules, computed from the fresh tree, give these replies
 --     distinct     it meets §12.6
 --     promised     by Demand3: its book is the one dot that is live
---     refused-kept     its refused call left all as it was (§11.7)
+--     refused-kept     its refused insert left all as it was (§11.7)
 -- From `promised` alone, of whatever is called next and whatever it leaves:
 --     lists-three      a query lists the live id (§12.7)
 --     removes-three    its remove by its rectangle says yes (§12.8)
@@ -30,12 +30,15 @@ use Rattle.model.specs.Sums.{indicator, changed, sumOver}
 use Rattle.model.specs.Lists.{count}
 use Rattle.model.specs.declared.Dot.{Dot}
 use Rattle.model.specs.declared.Window.{Window}
+use Rattle.model.specs.declared.patch.Patch.{Patch}
 use Rattle.model.specs.declared.answers.Found.{Found}
 use Rattle.model.specs.Dots.{goodInk, shows, isHit, matches}
 use Rattle.model.specs.Shapes.{fresh, inserted, splitsMade, splitsNeeded, removed, foundBy, cleaned, cleans, listed, opensFor}
 use Rattle.model.specs.Layout.{World, lengthsRight, layout}
 use Rattle.model.specs.Calls.{Reply, refused, answered, exit, insertRule, removeRule, cleanupRule, queryRule, Make, Remove, Cleanup, Query}
-use Rattle.model.specs.Book.{Event, insert, remove, cleanup, query, Run, Live, Distinct, Exactly, Promise, Demand3}
+use Rattle.model.specs.Thresholds.{thresholds, thresholdAt}
+use Rattle.model.specs.Patch.{patchFits, patchRects, patchDots, patchRule}
+use Rattle.model.specs.Book.{Event, insert, remove, cleanup, query, patch, Run, Has, Live, Distinct, Exactly, Promise, Demand3}
 use Rattle.model.specs.Trials.{settings, rect}
 use Rattle.model.specs.Laws.Sums.{indicator-same}
 use Rattle.model.specs.Laws.Book.{live-count}
@@ -81,16 +84,24 @@ three = dot 3 (rect 9 9 10 10) 2
 abbrev window : Window
 window = record { rect = rect 9 9 12 12; inks = 4 }
 
--- the second is off the film; the third splits twice; the first remove looks in another leaf; the cleanup frees the lower group
+-- one tile of tint 1: one dot, at its corner
+abbrev tile : Patch
+tile = record { x = pos 3; y = pos 3; columns = 1; rows = 1; tint = 1; «first_id» = 7 }
+
+-- the second is off the film; the third splits twice; the first patch finds no place; the first remove looks in another leaf; the cleanup frees the
+-- lower group
 abbrev events : List Event
 events =
     insert one (answered 0)
     ∷ insert (dot 4 (rect 16 16 18 18) 15) (refused 5)
     ∷ insert two (answered 2)
     ∷ insert three (answered 0)
+    ∷ patch tile (refused 14)
     ∷ remove 1 (rect 9 1 10 2) (answered false)
     ∷ remove 1 (one .rect) (answered true)
     ∷ remove 2 (two .rect) (answered true)
+    ∷ patch tile (answered 1)
+    ∷ remove 7 (rect 3 3 4 4) (answered true)
     ∷ cleanup (answered true)
     ∷ query window (0 ∷ []) (3 ∷ []) (answered (record { hits = 1; opened = 3 }))
     ∷ []
@@ -100,6 +111,7 @@ unfolding flat intersects middle within inverted near farOut W bitsWithin bitLen
     rootCell rootData childCentre quarterCell childCell childData quadrant routeCell bothTests opens mayDivide
     fresh inserted splitsMade splitsNeeded removed foundBy cleaned cleans listed opensFor
     insertRule removeRule cleanupRule queryRule goodInk shows bitAt isHit matches indicator changed maxZ minZ
+    patchFits patchRects patchDots patchRule thresholds thresholdAt
 computed = refl
 
 pub happens : (w : World) × Run start events w
@@ -111,11 +123,24 @@ happens =
 not-live : (id : ℕ) (b : List Dot) → sumOver (idIs id) b ≡ 0 → ¬ Live id b
 not-live id b none live = omega (arith, none, live-count id b live)
 
+tile-new : (d : Dot) → Has d (patchDots tile) → ¬ Live (d .id) (three ∷ [])
+unfolding patchRects patchDots thresholds thresholdAt indicator
+tile-new d has = ⊎-elim (λ p. subst (λ (e : Dot). ¬ Live (e .id) (three ∷ [])) p (not-live 7 (three ∷ []) refl)) (λ none. absurd none) has
+
 distinct : Distinct events
 unfolding indicator
 distinct = (
   (λ e. not-live 1 [] refl),
-  ((λ e. true-false (sym e)), ((λ e. not-live 2 (one ∷ []) refl), ((λ e. not-live 3 (two ∷ one ∷ []) refl), (tt, (tt, (tt, (tt, (tt, tt)))))))),
+  (
+    (λ e. true-false (sym e)),
+    (
+      (λ e. not-live 2 (one ∷ []) refl),
+      (
+        (λ e. not-live 3 (two ∷ one ∷ []) refl),
+        ((λ e. true-false (sym e)), (tt, (tt, (tt, ((λ e. tile-new), (tt, (tt, (tt, tt)))))))),
+      ),
+    ),
+  ),
 )
 
 -- ---- what is promised after it
@@ -135,7 +160,7 @@ module _ (q : Window) (d : Dot) where
 
 module _ (w : World) (run : Run start events w) where
   pub promised : Promise (settings 1) w (three ∷ [])
-  unfolding Demand3
+  unfolding Demand3 patchRects patchDots thresholds thresholdAt
   promised = demand-3 lent (settings 1) start made events w run distinct
 
   pub refused-kept : Untouched {B = ℕ} {A = ℕ} (run .0) [] (exit (run .2 .0) [] (refused 5))

@@ -2,6 +2,8 @@
 --     not-branch, is-branch        what a test for a branch says of the count
 --     node-in-row  the row has the node at which a tree stands
 --     mark-no-leaf, shallow-branch where the mark stands there is no leaf, and below a branch a level is left
+--     child-stands a branch's child stands a level lower
+--     sum-step     a sum over the last children: the first of them, and the others
 --     root-stands, root-total      the tree of a memory stands at node 0, and its nodes are few enough to be counted
 use mathlib.Core.Path.{_≡_, ap, sym, _∙_, refl, subst}
 use mathlib.Core.List.{List, [], _∷_, map}
@@ -30,7 +32,7 @@ use Rattle.model.specs.Laws.Memory.{holds-represented}
 use Rattle.memory.specs.declared.node.Node.{Node}
 use Rattle.memory.specs.Nodes.{nodeAt}
 use Rattle.memory.specs.Rows.{HasNode, HasPlace, HasRect}
-use Rattle.tree.specs.Trees.{NodesIn, nodeTotal, TreeStands}
+use Rattle.tree.specs.Trees.{sumLast, NodesIn, nodeTotal, TreeStands}
 
 -- ---- what a test for a branch says of the count
 
@@ -57,6 +59,22 @@ mark-no-leaf chain few counted mark = omega (arith, sumOver-one chain)
 pub shallow-branch : (levels g : ℕ) (f : ℕ → Tree) → Shallow levels (branch g f) → (1 ≤ levels) × ((i : ℕ) → i < 5 → Shallow (levels - 1) (f i))
 shallow-branch zero g f s = absurd s
 shallow-branch (suc n) g f s = (omega arith, λ i b. rw sub-one (s i b))
+
+-- a child stands a level lower
+pub child-stands : {nodes dots : List ℕ} {rects : List ℤ} {levels a g : ℕ} {f : ℕ → Tree} → TreeStands nodes dots rects levels a (branch g f)
+    → (i : ℕ) → i < 5 → TreeStands nodes dots rects (levels - 1) (childNode g i) (f i)
+child-stands {levels = levels} {g = g} {f = f} s i b =
+    record {
+      represents = s .represents .2 i b;
+      shallow = shallow-branch levels g f (s .shallow) .1 i b;
+      nodesIn = s .nodesIn .1 i b;
+      dotsIn = s .dotsIn i b;
+      few = omega (arith, s .few, sumBelow-term 5 (λ j. size (f j)) i b);
+    }
+
+pub sum-step : (f : ℕ → ℕ) (left : ℕ) → 1 ≤ left → sumLast left f ≡ f (5 - left) + sumLast (left - 1) f
+sum-step f zero h = absurd (omega arith)
+sum-step f (suc left) h = rw (sub-one (suc left)) refl
 
 -- ---- every node and place of a tree, by counting
 

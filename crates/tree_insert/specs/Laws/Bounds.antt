@@ -1,40 +1,24 @@
 -- The dots of a chain that lie within the bounds of a node.
---     deal-pick    what the deal gives a child, as a sum over the dealt chain
 --     Chosen       a chain whose every sum is that of the dots within bounds
 --     all-chosen, child-chosen     within no bounds all are; within a child's bounds those within the parent's that go to it
-use mathlib.Core.Path.{_≡_, ap, sym, refl}
+use mathlib.Core.Path.{_≡_, ap, refl}
 use mathlib.Core.List.{List, [], _∷_}
 use mathlib.Core.Bool.{cond, Bool, true, false, _&&_}
 use Prim.Native.Nat.{ℕ, _+_, _≤_, _<_}
 use native.Mathlib.Omega.{arith}
 use lib.Dec.{eqb}
-use borrow.Author.Tests.{eq-eqb, ne-eqb}
 use Rattle.arithmetic.specs.Laws.Tests.{byBool}
 use Rattle.geometry.specs.declared.node_data.NodeData.{NodeData}
 use Rattle.geometry.specs.declared.bounds.Bounds.{Bounds}
 use Rattle.geometry.specs.declared.settings.Settings.{Settings}
 use Rattle.geometry.specs.Bounds.{allBounds, boundsBelow, inBounds}
 use Rattle.geometry.specs.Laws.Bounds.{bounds-below, bounds-all}
-use Rattle.model.specs.Sums.{sumOver, changed}
-use Rattle.model.specs.Laws.Sums.{changed-all}
+use Rattle.model.specs.Sums.{sumOver}
 use Rattle.model.specs.Trees.{Placed}
-use Rattle.model.specs.Insert.{routeDot, deal}
+use Rattle.model.specs.Insert.{routeDot}
 use Rattle.model.specs.Lists.{All}
 use Rattle.model.specs.Dots.{acceptableDot}
 use Rattle.model.specs.Laws.Dots.{dot-upright}
-
--- ---- the dots that go to a child
-
-pub deal-pick : (n : NodeData) (h : Placed → ℕ) (acc : ℕ → List Placed) (ds : List Placed) (i : ℕ)
-    → sumOver h (deal n acc ds i) ≡ sumOver (λ d. cond (eqb (routeDot n d) i) (h d) 0) ds + sumOver h (acc i)
-deal-pick n h acc [] i = omega arith
-deal-pick n h acc (d ∷ ds) i =
-    let j = routeDot n d in
-    let here : sumOver h (changed acc j (d ∷ acc j) i) ≡ cond (eqb j i) (h d) 0 + sumOver h (acc i) =
-    changed-all (λ (k : ℕ) (l : List Placed). sumOver h l ≡ cond (eqb j k) (h d) 0 + sumOver h (acc k)) acc j (d ∷ acc j) i
-    (λ e. rw (eq-eqb j i (sym e)) (ap (λ (k : ℕ). h d + sumOver h (acc k)) (sym e)))
-    (λ ne. rw (ne-eqb j i (λ e. ne (sym e))) (omega arith)) in
-    omega (arith, deal-pick n h (changed acc j (d ∷ acc j)) ds i, here)
 
 -- ---- the dots within bounds
 

@@ -1,16 +1,22 @@
 -- The walk along the free groups.
 --     Walking      its invariant: the groups passed and those from here on are the whole list
 --     walk-start, walk-here, walk-on, walk-end     its begin; the next group is there; a turn; its end
---     groups-free  the free groups of a stored tree
-use mathlib.Core.Path.{_≡_, ap, sym, _∙_, subst}
+--     groups-free, free-listed     the free groups of a stored tree, and of a memory
+use mathlib.Core.Path.{_≡_, refl, ap, sym, _∙_, subst}
 use mathlib.Core.List.{List, [], _∷_}
 use Prim.Native.Nat.{ℕ, _≤_, _+_, _*_, _<_}
+use native.Mathlib.Decide.{decLt}
 use native.Mathlib.Omega.{arith}
+use lib.IntN.{ℤ}
 use lib.ListN.{length}
-use Rattle.model.specs.Layout.{none}
-use Rattle.model.specs.Memory.{firstAt, Mem, FreeGroups}
+use Rattle.model.specs.declared.State.{State}
+use Rattle.model.specs.Layout.{none, world, Holds}
+use Rattle.model.specs.Memory.{firstAt, Mem, FreeGroups, memory}
+use Rattle.model.specs.Shapes.{Shape}
 use Rattle.model.specs.Sums.{indicator, sumOver}
-use Rattle.model.specs.Laws.Sums.{indicator-same}
+use Rattle.model.specs.Laws.Sums.{byDec, indicator-same}
+use Rattle.model.specs.Laws.Shapes.{below-no}
+use Rattle.model.specs.Laws.Memory.{holds-represented}
 use Rattle.model.specs.Trees.{childNode}
 use Rattle.memory.specs.declared.node.Node.{Node}
 use Rattle.memory.specs.Nodes.{nodeAt}
@@ -60,3 +66,12 @@ groups-free G nodes m firsts fit few h (g ∷ gs) inside f =
       groups-free G nodes m firsts fit few (firstAt nodes h) gs (λ k c. inside k (omega arith))
           (subst (λ (y : ℕ). FreeGroups m y gs) (ap (λ (k : ℕ → ℕ). k (childNode g 0)) firsts ∙ ap (firstAt nodes) (sym (f .0))) (f .3)),
     )
+
+pub free-listed : (s : State) (nodes dots : List ℕ) (rects : List ℤ) (marks : List ℕ) (x : Shape) → Holds (world s nodes dots rects marks) x
+    → FreeIn nodes (s .«free_group») (x .freeGroups)
+free-listed s nodes dots rects marks x h =
+    let w = world s nodes dots rects marks in
+    let rep = holds-represented w x h in
+    let v = h .valid in
+    groups-free (x .groups) nodes (memory w) refl (rep .nodes) (v .groupsFit) (s .«free_group») (x .freeGroups)
+    (λ g c. byDec (decLt g (x .groups)) (λ b. b) (λ b. absurd (omega (arith, v .groupsOnce g, below-no g (x .groups) (omega arith))))) (rep .groups)

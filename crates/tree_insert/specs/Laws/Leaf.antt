@@ -7,7 +7,6 @@ use mathlib.Core.Path.{_≡_, refl, ap, sym, _∙_, subst}
 use mathlib.Core.List.{List}
 use Prim.Native.Nat.{ℕ, zero, suc, _≤_}
 use native.Mathlib.Omega.{arith}
-use native.Mathlib.Decide.{decLt}
 use lib.IntN.{ℤ}
 use lib.ListN.{length}
 use Rattle.geometry.specs.declared.aabb.AABB.{AABB}
@@ -24,11 +23,10 @@ use Rattle.model.specs.Insert.{Grown, insertAt}
 use Rattle.model.specs.Laws.Insert.{splitCount}
 use Rattle.model.specs.declared.State.{State}
 use Rattle.model.specs.declared.Dot.{Dot}
-use Rattle.model.specs.Laws.Sums.{sumOver-one, byDec}
+use Rattle.model.specs.Laws.Sums.{sumOver-one}
 use Rattle.model.specs.Layout.{World, world, Holds}
-use Rattle.model.specs.Memory.{memory}
 use Rattle.model.specs.Laws.Splitting.{needed-count}
-use Rattle.model.specs.Laws.Shapes.{below-no, live-and-free, valid-height}
+use Rattle.model.specs.Laws.Shapes.{live-and-free, valid-height}
 use Rattle.model.specs.Laws.Layout.{holds-settings}
 use Rattle.model.specs.Laws.Memory.{holds-represented}
 use Rattle.memory.specs.declared.node.Node.{Node}
@@ -41,7 +39,7 @@ use Rattle.tree.specs.Laws.Stored.{holds-stored}
 use Rattle.tree.specs.Laws.Leaves.{here-sum, here-count, here-stands, leads-leaf}
 use Rattle.tree_insert.specs.declared.needed.Needed.{Needed}
 use Rattle.tree_insert.specs.FreeGroups.{FreeIn, SomeFree}
-use Rattle.tree_insert.specs.Laws.FreeGroups.{groups-free}
+use Rattle.tree_insert.specs.Laws.FreeGroups.{free-listed}
 use Rattle.tree_insert.specs.SplitsNeeded.{Countable, neededOf, SplitsTold}
 use Rattle.tree_insert.specs.SplitDown.{Ended, ended, Inserting}
 
@@ -115,10 +113,7 @@ module _ {s : State} {nodes dots : List ℕ} {rects : List ℤ} {marks : List �
 
   -- the free groups
   groups-listed : FreeIn nodes (s .«free_group») (x .freeGroups)
-  groups-listed =
-      let rep = holds-represented w₀ x h in
-      groups-free (x .groups) nodes (memory w₀) refl (rep .nodes) (h .valid .groupsFit) (s .«free_group») (x .freeGroups)
-      (λ g c. byDec (decLt g (x .groups)) (λ b. b) (λ b. absurd (omega (arith, h .valid .groupsOnce g, below-no g (x .groups) (omega arith))))) (rep .groups)
+  groups-listed = free-listed s nodes dots rects marks x h
 
   pub listed-free : SomeFree nodes (s .«free_group»)
   listed-free = record { free = x .freeGroups; listed = groups-listed }

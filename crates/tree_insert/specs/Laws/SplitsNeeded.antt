@@ -33,6 +33,7 @@ use Rattle.model.specs.Memory.{nextAt, rectAt}
 use Rattle.model.specs.Insert.{mustSplit, routeDot, deal}
 use Rattle.model.specs.Laws.Insert.{splitCount, levels-suffice}
 use Rattle.model.specs.Laws.Sums.{sumOver-one, byDec}
+use Rattle.model.specs.Laws.Dealing.{deal-pick}
 use Rattle.memory.specs.declared.node.Node.{Node}
 use Rattle.memory.specs.Nodes.{nodeAt}
 use Rattle.memory.specs.Rows.{HasPlace, HasRect}
@@ -42,7 +43,7 @@ use Rattle.tree.specs.Laws.Descent.{stepsLeft, steps-fall}
 use Rattle.tree_insert.specs.declared.needed.Needed.the-variants.{Splits, TooMany}
 use Rattle.tree_insert.specs.SplitsNeeded.{within, SomeChain, Countable, neededOf, SplitsTold}
 use Rattle.tree_insert.specs.Laws.FreeGroups.{Walking, walk-start, walk-on, walk-end}
-use Rattle.tree_insert.specs.Laws.Bounds.{one-most, deal-pick, Chosen, all-chosen, child-chosen}
+use Rattle.tree_insert.specs.Laws.Bounds.{one-most, Chosen, all-chosen, child-chosen}
 
 -- ---- the count of a chain
 

@@ -1,5 +1,5 @@
--- Joins and sums over the last children of a group (`joinLast`, `sumLast`).
---     join-step, sum-step          the first of those left, and the others
+-- Joins over the last children of a group (`joinLast`).
+--     join-step                    the first of those left, and the others
 --     join-five                    all five children
 --     join-four                    the four that are not child 0
 use mathlib.Core.Path.{_≡_, refl}
@@ -8,7 +8,7 @@ use Prim.Native.Nat.{ℕ, zero, suc, _+_, _-_, _≤_}
 use native.Mathlib.Numerals.{sub-one}
 use native.Mathlib.Omega.{arith}
 use Rattle.model.specs.Lists.{joinBelow}
-use Rattle.tree_query.specs.Walks.{joinLast, sumLast}
+use Rattle.tree_query.specs.Walks.{joinLast}
 
 module _ {A : Type 0} (f : ℕ → List A) where
   pub join-step : (left : ℕ) → 1 ≤ left → joinLast left f ≡ f (5 - left) ++ joinLast (left - 1) f
@@ -20,7 +20,3 @@ module _ {A : Type 0} (f : ℕ → List A) where
 
   pub join-four : joinLast 4 f ≡ joinBelow 4 (λ i. f (1 + i))
   join-four = simp (append-assoc, append-nil)
-
-pub sum-step : (f : ℕ → ℕ) (left : ℕ) → 1 ≤ left → sumLast left f ≡ f (5 - left) + sumLast (left - 1) f
-sum-step f zero h = absurd (omega arith)
-sum-step f (suc left) h = rw (sub-one (suc left)) refl

@@ -19,12 +19,12 @@ use Rattle.model.specs.Laws.Sums.{sumBelow-le}
 use Rattle.model.specs.Trees.{Tree, leaf, branch, childNode}
 use Rattle.model.specs.Query.{leavesOf, leafCount}
 use Rattle.model.specs.Laws.Query.{leaves-length}
-use Rattle.tree.specs.Trees.{nodeTotal}
+use Rattle.tree.specs.Trees.{nodeTotal, sumLast}
+use Rattle.tree.specs.Laws.Trees.{sum-step}
 use Rattle.tree_query.specs.Rows.{keptAll}
-use Rattle.tree_query.specs.Walks.{sumLast}
 use Rattle.tree_query.specs.Leaves.{LeafStands, groupLeaves, LeavesLeft, LeafWalk, LeafWalked, LeafGroup, LeafGroupWalked}
 use Rattle.tree_query.specs.Laws.Rows.{kept-append, keptAll-length}
-use Rattle.tree_query.specs.Laws.Children.{join-step, sum-step}
+use Rattle.tree_query.specs.Laws.Children.{join-step}
 
 -- ---- one walk after another
 

@@ -32,7 +32,7 @@ use Rattle.tree_query.specs.Rows.{keptAll}
 use Rattle.tree_query.specs.Leaves.{Shaped, LeafStands, LeafWalk, LeafWalked}
 use Rattle.tree_query.specs.Answers.{LeavesMet, LeavesListed}
 use Rattle.tree_query.specs.Laws.Rows.{kept-whole}
-use Rattle.tree_query.specs.Laws.Queries.{tree-settings}
+use Rattle.tree.specs.Laws.Operations.{tree-settings}
 use Rattle.tree_query.specs.Laws.LeafGroups.{words-total}
 
 shaped : (nodes dots : List ℕ) (rects : List ℤ) (a : ℕ) (t : Tree) → Represents (read nodes dots rects) a t → Shaped nodes a t
@@ -45,7 +45,7 @@ leaf-stands nodes dots rects levels a t s =
 
 module _ (s : State) (nodes : List ℕ) where
   pub leaf-settings : HasTree s nodes → inRange (s .settings) ≡ true
-  leaf-settings h = tree-settings s nodes (h .dots) (h .rects) (h .tree)
+  leaf-settings h = tree-settings (h .tree)
 
   pub root-leaves : {room : ℕ} {row : List ℤ} {n : NodeData} {levels : ℕ} → HasTree s nodes → room ≤ length row
       → n ≡ rootData (s .settings) → levels ≡ D (s .settings) → LeafWalk n nodes room row 0 0 levels

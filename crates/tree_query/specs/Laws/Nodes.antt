@@ -4,7 +4,7 @@
 use mathlib.Core.Path.{_≡_, ap, sym, _∙_}
 use mathlib.Core.List.{List, [], _∷_}
 use mathlib.Core.Bool.{Bool, true, false, cond, not}
-use Prim.Native.Nat.{ℕ, _+_, _-_, _≤_, _<_}
+use Prim.Native.Nat.{ℕ, _+_, _-_, _≤_}
 use native.Mathlib.Omega.{arith}
 use lib.IntN.{ℤ}
 use lib.Dec.{eqb}
@@ -15,17 +15,17 @@ use Rattle.geometry.specs.declared.quadrants.Quadrants.{Quadrants}
 use Rattle.geometry.specs.Cells.{childData, cellCode, opens}
 use Rattle.model.specs.declared.Window.{Window}
 use Rattle.model.specs.Sums.{sumBelow}
-use Rattle.model.specs.Laws.Sums.{sumOver-one, sumBelow-term}
-use Rattle.model.specs.Trees.{Placed, Tree, leaf, branch, childNode, size}
+use Rattle.model.specs.Laws.Sums.{sumOver-one}
+use Rattle.model.specs.Trees.{Placed, Tree, leaf, branch, size}
 use Rattle.model.specs.Query.{hits, opened}
 use Rattle.model.specs.Layout.{none, branchMark}
 use Rattle.model.specs.Memory.{read, firstAt, countAt, nextAt, Chained}
 use Rattle.model.specs.declared.answers.Found.{Found}
 use Rattle.memory.specs.declared.node.Node.{Node}
 use Rattle.memory.specs.Nodes.{nodeAt}
-use Rattle.tree.specs.Trees.{nodeTotal, TreeStands}
-use Rattle.tree.specs.Laws.Trees.{not-branch, is-branch, mark-no-leaf, shallow-branch}
-use Rattle.tree_query.specs.Walks.{sumLast, chainHits, after, rowAfter, Left, CanGrow}
+use Rattle.tree.specs.Trees.{nodeTotal, sumLast, TreeStands}
+use Rattle.tree.specs.Laws.Trees.{not-branch, is-branch, mark-no-leaf, shallow-branch, child-stands}
+use Rattle.tree_query.specs.Walks.{chainHits, after, rowAfter, Left, CanGrow}
 use Rattle.tree_query.specs.Walks.{ChainWalk, ChainWalked, NodeWalk, NodeWalked, GroupWalk, GroupWalked}
 use Rattle.tree_query.specs.Laws.Children.{join-five}
 
@@ -38,18 +38,6 @@ module _ (nodes nodes′ dots : List ℕ) (rects : List ℤ) where
   chain-rows : (h : ℕ) (ds : List Placed) → Chained (read nodes dots rects) h ds none → Chained (read nodes′ dots rects) h ds none
   chain-rows h [] s = s
   chain-rows h (d ∷ ds) s = (s .0, s .1, chain-rows (nextAt dots (d .place)) ds (s .2))
-
--- a child stands a level lower
-child-stands : {nodes dots : List ℕ} {rects : List ℤ} {levels a g : ℕ} {f : ℕ → Tree} → TreeStands nodes dots rects levels a (branch g f)
-    → (i : ℕ) → i < 5 → TreeStands nodes dots rects (levels - 1) (childNode g i) (f i)
-child-stands {levels = levels} {g = g} {f = f} s i b =
-    record {
-      represents = s .represents .2 i b;
-      shallow = shallow-branch levels g f (s .shallow) .1 i b;
-      nodesIn = s .nodesIn .1 i b;
-      dotsIn = s .dotsIn i b;
-      few = omega (arith, s .few, sumBelow-term 5 (λ j. size (f j)) i b);
-    }
 
 module _ (nodes dots : List ℕ) (rects : List ℤ) (room : ℕ) (row : List ℕ) (found : Found) (a levels : ℕ) (q : Window) (cell : CenteredAABB)
     {node : Node} {b : Bool} (words : node ≡ nodeAt nodes a) (told : b ≡ eqb (node .count) branchMark) where

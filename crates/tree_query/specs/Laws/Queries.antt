@@ -1,5 +1,5 @@
 -- Queries on a memory that is a tree: a law for each way through the code.
---     tree-settings, tree-root     the settings of a tree are in range, and so is its root
+--     tree-root    the root of a tree is in range
 --     root-walk, root-met  the walk from the root
 --     met-counted          a walk with no room counts
 --     room-live, room-counted      there is room for all that is listed
@@ -13,7 +13,7 @@ use lib.IntN.{ℤ}
 use lib.ListN.{length, replicate}
 use borrow.Author.Tests.{lt-ltb, le-ltb}
 use Rattle.geometry.specs.declared.centered_aabb.CenteredAABB.{CenteredAABB}
-use Rattle.geometry.specs.Settings.{rootFits, inRange, D}
+use Rattle.geometry.specs.Settings.{rootFits, D}
 use Rattle.geometry.specs.Cells.{rootCell, rootData}
 use Rattle.geometry.specs.Laws.Ranges.{accepted, root-range}
 use Rattle.model.specs.declared.Window.{Window}
@@ -28,6 +28,7 @@ use Rattle.model.specs.Laws.Memory.{holds-represented}
 use Rattle.model.specs.Laws.Lists.{length-map}
 use Rattle.model.specs.Laws.Listing.{listed-le}
 use Rattle.tree.specs.Operations.{IsTree}
+use Rattle.tree.specs.Laws.Operations.{tree-settings}
 use Rattle.tree.specs.Laws.Trees.{root-stands, root-total}
 use Rattle.model.specs.declared.answers.Found.{Found}
 use Rattle.tree_query.specs.Walks.{ids, after, rowAfter, NodeWalk, NodeWalked}
@@ -35,9 +36,6 @@ use Rattle.tree_query.specs.Answers.{Met, Counted, Queried}
 use Rattle.tree_query.specs.Laws.Rows.{kept-whole}
 
 module _ (s : State) (nodes dots : List ℕ) (rects : List ℤ) where
-  pub tree-settings : IsTree s nodes dots rects → inRange (s .settings) ≡ true
-  tree-settings t = ap inRange (holds-settings (world s nodes dots rects (t .marks)) (t .shape) (t .holds)) ∙ t .holds .valid .settingsFit
-
   pub tree-root : IsTree s nodes dots rects → rootFits (s .settings) ≡ true
   tree-root t = accepted (s .settings) (tree-settings t) .root
 

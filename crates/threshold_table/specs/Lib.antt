@@ -1,0 +1,2 @@
+-- The thresholds, quarter by quarter.
+pub mod Quarters
