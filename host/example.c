@@ -1,4 +1,5 @@
-/* A worked example for a C host: a film of 16 by 16, three dots of two inks, a window, a grid of windows, a tint patch, and what is refused. */
+/* A worked example for a C host: a film of 16 by 16, three dots of two inks, a window, a grid of windows, a tint patch, a ticket, and what
+ * is refused. */
 #include "krakvinge.h"
 #include <inttypes.h>
 #include <stdio.h>
@@ -6,7 +7,7 @@
 #define GROUPS 4
 #define PLACES 8
 
-static uint32_t state[KRAKVINGE_STATE_WORDS] = {0, 0, 16, 16, 2, 2, 1, 0, 0, 0};
+static uint32_t state[KRAKVINGE_STATE_WORDS] = {0, 0, 16, 16, 2, 2, 1};
 static uint32_t nodes[KRAKVINGE_NODE_WORDS(GROUPS)];
 static uint32_t dots[KRAKVINGE_DOT_WORDS(PLACES)];
 static int32_t rects[KRAKVINGE_RECT_WORDS(PLACES)];
@@ -74,6 +75,22 @@ static void patch(uint32_t tint) {
         printf("patch of tint %" PRIu32 ": refusal %" PRIu32 ": %s\n", tint, KRAKVINGE_REFUSAL(result), krakvinge_refusal_text(KRAKVINGE_REFUSAL(result)));
 }
 
+/* Asks, places by the ticket, and once more, when the tree has changed. */
+static uint64_t ticket(void) {
+    uint32_t given[KRAKVINGE_TICKET_WORDS];
+    uint64_t asked = krakvinge_ask(TREE, 7, 3, 3, 3, 3, 3, given, WORDS(given), ANSWER);
+    printf("ask 7: %" PRIu32 " splits, after %" PRIu64 " changes\n", answer[0], KRAKVINGE_CHANGES(state));
+    for (int turn = 0; asked == 0 && turn < 2; turn++) {
+        uint32_t refusal = KRAKVINGE_REFUSAL(krakvinge_place(TREE, given, WORDS(given), ANSWER));
+        if (refusal == 0)
+            printf("place 7: %" PRIu32 " splits\n", answer[0]);
+        else
+            printf("place 7: refusal %" PRIu32 ": %s\n", refusal, krakvinge_refusal_text(refusal));
+    }
+    printf("changes: %" PRIu64 "\n", KRAKVINGE_CHANGES(state));
+    return asked;
+}
+
 int main(void) {
     int32_t row[24] = {0};
     uint32_t ids[PLACES] = {0};
@@ -103,5 +120,6 @@ int main(void) {
     patch(4);
     patch(200);
     patch(257);
+    refused |= ticket();
     return refused == 0 ? 0 : 1;
 }

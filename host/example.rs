@@ -1,4 +1,5 @@
-// A worked example for a Rust host: a film of 16 by 16, three dots of two inks, a window, a grid of windows, a tint patch, and what is refused.
+// A worked example for a Rust host: a film of 16 by 16, three dots of two inks, a window, a grid of windows, a tint patch, a ticket, and what
+// is refused.
 #[path = "rust/krakvinge.rs"]
 #[allow(dead_code)]
 mod krakvinge;
@@ -12,6 +13,20 @@ fn grid(film: &mut Tree) -> Result<(), Refused> {
     if let Err(refused) = film.grid(&Grid { columns: 65, rows: 1, ..windows }, &mut counts) {
         println!("grid: {refused}");
     }
+    Ok(())
+}
+
+// Asks, places by the ticket, and once more, when the tree has changed.
+fn ticket(film: &mut Tree) -> Result<(), Refused> {
+    let (splits, given) = film.ask(7, [3, 3, 3, 3], 3)?;
+    println!("ask 7: {splits} splits, after {} changes", given.changes);
+    for _ in 0..2 {
+        match film.place(&given) {
+            Ok(splits) => println!("place 7: {splits} splits"),
+            Err(refused) => println!("place 7: {refused}"),
+        }
+    }
+    println!("changes: {}", film.changes());
     Ok(())
 }
 
@@ -58,7 +73,7 @@ fn run() -> Result<(), Refused> {
             Err(refused) => println!("patch of tint {tint}: {refused}"),
         }
     }
-    Ok(())
+    ticket(&mut film)
 }
 
 fn main() {

@@ -1,12 +1,14 @@
 /* Krakvinge for a C host: the proved calls on lent rows. Link target/staticlib/libkrakvinge.a (rt staticlib krakvinge).
  *
  * Each row is a pointer and its length in words. The lengths, for G groups (0 to 16384) and N places (0 to 65536):
- *     state    10 words: the root's left, top, width and height; the two limits (depth, leaf) and the smallest cell; free group, free place, live;
- *              a negative number has 4294967296 added
+ *     state    12 words: the root's left, top, width and height; the two limits (depth, leaf) and the smallest cell; free group, free place, live;
+ *              the count of changes, its low word first (KRAKVINGE_CHANGES); a negative number has 4294967296 added
  *     nodes    2 + 10 G words        dots    3 N words        rects   4 N words        marks   N + G bytes
- *     answer   2 words
+ *     answer   2 words               ticket  8 words: id, x1, y1, x2, y2, ink, and the count of changes as in the state
  * A dot has an ink from 0 to 15, and a query a mask of inks, bit k for ink k (KRAKVINGE_ALL_INKS).
  * krakvinge_make reads the first seven words of the state and writes the others; from then on the rows belong to the calls.
+ * The count of changes is 0 on a fresh tree. It rises by 1 with each accepted insert and placing, with each dot of a patch, and with each remove and
+ * cleanup that says yes, and with nothing else. What would raise it past 18446744073709551615 is refused as 16, in a batch that record alone.
  *
  * What a host must see to: each row is memory of its length that the call may read (and, where the pointer is not const, write), aligned for its
  * words, and no two rows of a call overlap, nor does another thread write to them meanwhile. Then every call is defined and safe, whatever the rows
@@ -16,8 +18,8 @@
  * Each call returns 0, or its refusal (KRAKVINGE_REFUSAL, krakvinge_refusal_text); 8 has 256 times the number of answers added (KRAKVINGE_WANTED).
  * An answer of query, all and grid is one word of the row, an answer of leaves six (KRAKVINGE_LEAF_WORDS).
  * An accepted call writes its answer to the answer row; a refused one leaves it and the state as they were:
- *     insert: splits, 0       remove, cleanup: 1 for yes or 0 for no, 0       query, all: hits, opened       leaves, references: number, 0
- *     grid: the total, its low word first (KRAKVINGE_TOTAL)       patch: dots laid, 0
+ *     insert, ask, place: splits, 0       remove, cleanup: 1 for yes or 0 for no, 0       query, all: hits, opened
+ *     leaves, references: number, 0       patch: dots laid, 0       grid: the total, its low word first (KRAKVINGE_TOTAL)
  * A batch has a row of answers instead, a word for each record.
  */
 #ifndef KRAKVINGE_H
@@ -29,15 +31,19 @@
 extern "C" {
 #endif
 
-#define KRAKVINGE_VERSION "0.5.0"
+#define KRAKVINGE_VERSION "0.6.0"
 
-#define KRAKVINGE_STATE_WORDS 10
+#define KRAKVINGE_STATE_WORDS 12
 #define KRAKVINGE_ANSWER_WORDS 2
 #define KRAKVINGE_RECORD_WORDS 7
+#define KRAKVINGE_TICKET_WORDS 8
 #define KRAKVINGE_NODE_WORDS(groups) (2 + 10 * (size_t)(groups))
 #define KRAKVINGE_DOT_WORDS(places) (3 * (size_t)(places))
 #define KRAKVINGE_RECT_WORDS(places) (4 * (size_t)(places))
 #define KRAKVINGE_MARK_BYTES(groups, places) ((size_t)(groups) + (size_t)(places))
+
+/* The count of changes in a state row. */
+#define KRAKVINGE_CHANGES(state) ((uint64_t)(state)[11] << 32 | (state)[10])
 
 /* The mask of a query that lists every ink. */
 #define KRAKVINGE_ALL_INKS 65535
@@ -69,6 +75,8 @@ enum krakvinge_refusal {
     KRAKVINGE_BAD_CORNER = 12,
     KRAKVINGE_BAD_PATCH = 13,
     KRAKVINGE_PATCH_REFUSED = 14,
+    KRAKVINGE_STALE_TICKET = 15,
+    KRAKVINGE_COUNT_FULL = 16,
 };
 
 static inline const char *krakvinge_refusal_text(uint32_t refusal) {
@@ -88,6 +96,8 @@ static inline const char *krakvinge_refusal_text(uint32_t refusal) {
     case KRAKVINGE_BAD_CORNER: return "the grid's far corner is out of range";
     case KRAKVINGE_BAD_PATCH: return "the patch's tint or number of tiles is out of range";
     case KRAKVINGE_PATCH_REFUSED: return "a dot of the patch would be refused, or its ids run out";
+    case KRAKVINGE_STALE_TICKET: return "the ticket's count of changes is not the tree's";
+    case KRAKVINGE_COUNT_FULL: return "the count of changes cannot rise further";
     default: return "no refusal of this library";
     }
 }
@@ -104,6 +114,18 @@ uint64_t krakvinge_make(uint32_t *state, size_t state_words, uint32_t *nodes, si
 uint64_t krakvinge_insert(uint32_t *state, size_t state_words, uint32_t *nodes, size_t node_words, uint32_t *dots, size_t dot_words,
                           int32_t *rects, size_t rect_words, uint8_t *marks, size_t mark_bytes, uint32_t id, int32_t x1, int32_t y1,
                           int32_t x2, int32_t y2, uint32_t ink, uint32_t *answer, size_t answer_words);
+
+/* Tells the splits that an insert of this dot would make, and writes a ticket for it: the dot and the count of changes. It changes nothing else, and
+ * is refused just as the insert would be; then the ticket row is kept. A ticket row of another length is 1, here and for a placing. */
+uint64_t krakvinge_ask(const uint32_t *state, size_t state_words, const uint32_t *nodes, size_t node_words, const uint32_t *dots, size_t dot_words,
+                       const int32_t *rects, size_t rect_words, uint8_t *marks, size_t mark_bytes, uint32_t id, int32_t x1, int32_t y1, int32_t x2,
+                       int32_t y2, uint32_t ink, uint32_t *ticket, size_t ticket_words, uint32_t *answer, size_t answer_words);
+
+/* The insert of the ticket's dot, with the splits that the ask told; refused as 15 where the ticket's count of changes is not the state's: the tree has
+ * changed since. A ticket is plain numbers: one that no ask gave is placed or refused likewise. */
+uint64_t krakvinge_place(uint32_t *state, size_t state_words, uint32_t *nodes, size_t node_words, uint32_t *dots, size_t dot_words,
+                         int32_t *rects, size_t rect_words, uint8_t *marks, size_t mark_bytes, const uint32_t *ticket, size_t ticket_words,
+                         uint32_t *answer, size_t answer_words);
 
 /* By its id, whatever ink the dot has. */
 uint64_t krakvinge_remove(uint32_t *state, size_t state_words, uint32_t *nodes, size_t node_words, uint32_t *dots, size_t dot_words,
@@ -124,7 +146,8 @@ uint64_t krakvinge_batch(uint32_t *state, size_t state_words, uint32_t *nodes, s
 /* Lays a tint patch: columns times rows of tiles (1 to 64 each way) of 16 by 16 units, from the first corner x, y on. A tint from 0 to 256 lays so many
  * one-unit dots of ink 0 in each tile, where its threshold is below the tint: row after row over the whole patch, each from left to right, the first
  * with first_id and each with the next id. They are inserts: if one would be refused in its turn, or its id passed 4294967295, the patch is refused
- * as 14 and no dot is laid. Another tint or number of tiles is refused as 13, ahead of 1. */
+ * as 14 and no dot is laid; so it is as 16, where the count of changes alone stands in the way. Another tint or number of tiles is refused as 13,
+ * ahead of 1. */
 uint64_t krakvinge_patch(uint32_t *state, size_t state_words, uint32_t *nodes, size_t node_words, uint32_t *dots, size_t dot_words,
                          int32_t *rects, size_t rect_words, uint8_t *marks, size_t mark_bytes, int32_t x, int32_t y, uint32_t columns,
                          uint32_t rows, uint32_t tint, uint32_t first_id, uint32_t *answer, size_t answer_words);

@@ -1,8 +1,9 @@
 /* Replays recorded calls against the host's static library: replay_calls FILE. A line is 'tree', settings, groups and places, for a fresh tree;
- * or a call, '=', its result and, where it was accepted, the two words of its answer and those that it listed; or 'nodes', 'dots' or 'freegroups',
+ * or 'recounted' and the two words of the count of changes, the low one first, which the state has from then on; or a call, '=', its result and,
+ * where it was accepted, the two words of its answer and those that it listed (of an ask the ticket); or 'nodes', 'dots', 'changes' or 'freegroups',
  * '=', and the words of the memory or the free groups' numbers at this point. A recorded word '_' stands for any.
- * The numbers of a call: insert id x1 y1 x2 y2 ink; remove id x1 y1 x2 y2; query x1 y1 x2 y2 mask room; all and leaves room;
- * grid x y width height columns rows room; patch x y columns rows tint first-id. */
+ * The numbers of a call: insert and ask id x1 y1 x2 y2 ink; place these and the two words of a count; remove id x1 y1 x2 y2;
+ * query x1 y1 x2 y2 mask room; all and leaves room; grid x y width height columns rows room; patch x y columns rows tint first-id. */
 #include "../host/krakvinge.h"
 #include <inttypes.h>
 #include <stdbool.h>
@@ -44,10 +45,18 @@ static bool make(const long long *n, int count) {
     return krakvinge_make(TREE) == 0;
 }
 
+static bool recount(const long long *n, int count) {
+    for (int i = 0; count == 2 && i < 2; i++)
+        state[10 + i] = (uint32_t)n[i];
+    return count == 2;
+}
+
 /* How many numbers a call of the kind has; -1 for no call. */
 static int count_of(const char *kind) {
-    if (strcmp(kind, "insert") == 0 || strcmp(kind, "query") == 0 || strcmp(kind, "patch") == 0)
+    if (strcmp(kind, "insert") == 0 || strcmp(kind, "ask") == 0 || strcmp(kind, "query") == 0 || strcmp(kind, "patch") == 0)
         return 6;
+    if (strcmp(kind, "place") == 0)
+        return KRAKVINGE_TICKET_WORDS;
     if (strcmp(kind, "remove") == 0)
         return 5;
     if (strcmp(kind, "grid") == 0)
@@ -62,13 +71,25 @@ static bool room_of(const char *kind, const long long *n, int count, size_t *roo
     bool query = strcmp(kind, "query") == 0;
     if (count != count_of(kind) || (query && (n[4] < 0 || n[4] > KRAKVINGE_ALL_INKS)))
         return false;
-    *room = query ? (size_t)n[5] : count == 7 ? (size_t)n[6] : count == 1 ? (size_t)n[0] : 0;
+    bool ask = strcmp(kind, "ask") == 0;
+    *room = ask ? KRAKVINGE_TICKET_WORDS : query ? (size_t)n[5] : count == 7 ? (size_t)n[6] : count == 1 ? (size_t)n[0] : 0;
     return *room <= ROW;
+}
+
+static uint64_t place(const long long *n) {
+    uint32_t ticket[KRAKVINGE_TICKET_WORDS];
+    for (size_t i = 0; i < KRAKVINGE_TICKET_WORDS; i++)
+        ticket[i] = (uint32_t)n[i];
+    return krakvinge_place(TREE, ticket, KRAKVINGE_TICKET_WORDS, ANSWER);
 }
 
 static uint64_t call(const char *kind, const long long *n, size_t room) {
     if (strcmp(kind, "insert") == 0)
         return krakvinge_insert(TREE, (uint32_t)n[0], RECT(n + 1), (uint32_t)n[5], ANSWER);
+    if (strcmp(kind, "ask") == 0)
+        return krakvinge_ask(TREE, (uint32_t)n[0], RECT(n + 1), (uint32_t)n[5], ids, room, ANSWER);
+    if (strcmp(kind, "place") == 0)
+        return place(n);
     if (strcmp(kind, "remove") == 0)
         return krakvinge_remove(TREE, (uint32_t)n[0], RECT(n + 1), ANSWER);
     if (strcmp(kind, "cleanup") == 0)
@@ -105,6 +126,9 @@ static const char *memory(const char *kind) {
     } else if (strcmp(kind, "dots") == 0) {
         words = dots;
         count = KRAKVINGE_DOT_WORDS(places);
+    } else if (strcmp(kind, "changes") == 0) {
+        words = state + 10;
+        count = 2;
     } else if (strcmp(kind, "freegroups") == 0) {
         count = free_groups(list);
     } else {
@@ -120,6 +144,8 @@ static const char *memory(const char *kind) {
 static size_t listed_by(const char *kind, const long long *n) {
     if (strcmp(kind, "grid") == 0)
         return KRAKVINGE_GRID_WORDS(n[4], n[5]);
+    if (strcmp(kind, "ask") == 0)
+        return KRAKVINGE_TICKET_WORDS;
     return strcmp(kind, "leaves") == 0 ? KRAKVINGE_LEAF_WORDS(answer[0]) : answer[0];
 }
 
@@ -174,9 +200,10 @@ int main(int argc, char **argv) {
         for (char *word; kind != NULL && count < 9 && (word = strtok_r(NULL, " ", &save)) != NULL; count++)
             n[count] = strtoll(word, NULL, 10);
         bool tree = kind != NULL && theirs == NULL && strcmp(kind, "tree") == 0 && make(n, count);
+        bool recounted = kind != NULL && theirs == NULL && strcmp(kind, "recounted") == 0 && recount(n, count);
         const char *ours = kind != NULL && theirs != NULL ? replay(kind, n, count) : NULL;
-        if (!tree && ours == NULL) {
-            printf("replay: line %lu is no tree and no question with an answer\n", at);
+        if (!tree && !recounted && ours == NULL) {
+            printf("replay: line %lu is no tree, no count and no question with an answer\n", at);
             return 1;
         }
         if (ours != NULL && !same(ours, theirs + 3)) {
@@ -184,7 +211,7 @@ int main(int argc, char **argv) {
             return 1;
         }
         trees += tree;
-        replayed += !tree;
+        replayed += ours != NULL;
     }
     printf("replay: %lu recorded calls on %lu trees, no difference\n", replayed, trees);
     return replayed == 0;

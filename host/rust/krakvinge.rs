@@ -40,6 +40,8 @@ impl std::fmt::Display for Refused {
             12 => "the grid's far corner is out of range",
             13 => "the patch's tint or number of tiles is out of range",
             14 => "a dot of the patch would be refused, or its ids run out",
+            15 => "the ticket's count of changes is not the tree's",
+            16 => "the count of changes cannot rise further",
             _ => "no refusal of this library",
         };
         write!(f, "refusal {}: {why}", self.number)
@@ -75,6 +77,33 @@ pub struct Patch {
     pub rows: u32,
     pub tint: u32,
     pub first_id: u32,
+}
+
+/// What an ask hands out: the dot, and the count of changes that a placing wants. Plain values: one that no ask gave is placed or refused likewise.
+#[derive(Clone, Copy, PartialEq, Eq, Debug)]
+pub struct Ticket {
+    pub id: u32,
+    pub rect: Rect,
+    pub ink: u32,
+    pub changes: u64,
+}
+
+impl Ticket {
+    /// The words of its row.
+    pub fn words(&self) -> [u32; 8] {
+        let [x1, y1, x2, y2] = self.rect.map(|number| number as u32);
+        [self.id, x1, y1, x2, y2, self.ink, self.changes as u32, (self.changes >> 32) as u32]
+    }
+
+    pub fn of(words: &[u32; 8]) -> Ticket {
+        let [id, x1, y1, x2, y2, ink, low, high] = *words;
+        Ticket { id, rect: [x1, y1, x2, y2].map(|word| word as i32), ink, changes: wide(low, high) }
+    }
+}
+
+/// A number of 64 bits by its two words.
+fn wide(low: u32, high: u32) -> u64 {
+    (high as u64) << 32 | low as u64
 }
 
 /// A record of a batch, as its seven 32-bit words. A cleanup's id and rectangle mean nothing, nor does the ink of a record that is no insert.
@@ -118,6 +147,8 @@ pub mod raw {
     extern "C" {
         pub fn krakvinge_make(s: *mut u32, sn: usize, n: *mut u32, nn: usize, d: *mut u32, dn: usize, r: *mut i32, rn: usize, m: *mut u8, mn: usize) -> u64;
         pub fn krakvinge_insert(s: *mut u32, sn: usize, n: *mut u32, nn: usize, d: *mut u32, dn: usize, r: *mut i32, rn: usize, m: *mut u8, mn: usize, id: u32, x1: i32, y1: i32, x2: i32, y2: i32, ink: u32, a: *mut u32, an: usize) -> u64;
+        pub fn krakvinge_ask(s: *const u32, sn: usize, n: *const u32, nn: usize, d: *const u32, dn: usize, r: *const i32, rn: usize, m: *mut u8, mn: usize, id: u32, x1: i32, y1: i32, x2: i32, y2: i32, ink: u32, t: *mut u32, tn: usize, a: *mut u32, an: usize) -> u64;
+        pub fn krakvinge_place(s: *mut u32, sn: usize, n: *mut u32, nn: usize, d: *mut u32, dn: usize, r: *mut i32, rn: usize, m: *mut u8, mn: usize, t: *const u32, tn: usize, a: *mut u32, an: usize) -> u64;
         pub fn krakvinge_remove(s: *mut u32, sn: usize, n: *mut u32, nn: usize, d: *mut u32, dn: usize, r: *mut i32, rn: usize, m: *mut u8, mn: usize, id: u32, x1: i32, y1: i32, x2: i32, y2: i32, a: *mut u32, an: usize) -> u64;
         pub fn krakvinge_cleanup(s: *mut u32, sn: usize, n: *mut u32, nn: usize, d: *const u32, dn: usize, r: *const i32, rn: usize, m: *mut u8, mn: usize, a: *mut u32, an: usize) -> u64;
         pub fn krakvinge_batch(s: *mut u32, sn: usize, n: *mut u32, nn: usize, d: *mut u32, dn: usize, r: *mut i32, rn: usize, m: *mut u8, mn: usize, w: *const u32, wn: usize, a: *mut u32, an: usize) -> u64;
@@ -145,7 +176,7 @@ impl Rows {
     pub fn new(s: &Settings, groups: usize, places: usize) -> Rows {
         let root = [s.left as u32, s.top as u32, s.width as u32, s.height as u32];
         let mut state = root.to_vec();
-        state.extend([s.depth_limit, s.leaf_limit, s.smallest_cell, 0, 0, 0]);
+        state.extend([s.depth_limit, s.leaf_limit, s.smallest_cell, 0, 0, 0, 0, 0]);
         Rows { state, nodes: vec![0; 2 + 10 * groups], dots: vec![0; 3 * places], rects: vec![0; 4 * places], marks: vec![0; places + groups] }
     }
 
@@ -160,6 +191,27 @@ impl Rows {
             raw::krakvinge_insert(
                 s.as_mut_ptr(), s.len(), n.as_mut_ptr(), n.len(), d.as_mut_ptr(), d.len(), r.as_mut_ptr(), r.len(), m.as_mut_ptr(), m.len(),
                 id, x1, y1, x2, y2, ink, a.as_mut_ptr(), a.len(),
+            )
+        }
+    }
+
+    /// The ticket's eight words are written to its row.
+    pub fn ask(&mut self, id: u32, [x1, y1, x2, y2]: Rect, ink: u32, ticket: &mut [u32], a: &mut [u32]) -> u64 {
+        let Rows { state: s, nodes: n, dots: d, rects: r, marks: m } = self;
+        unsafe {
+            raw::krakvinge_ask(
+                s.as_ptr(), s.len(), n.as_ptr(), n.len(), d.as_ptr(), d.len(), r.as_ptr(), r.len(), m.as_mut_ptr(), m.len(),
+                id, x1, y1, x2, y2, ink, ticket.as_mut_ptr(), ticket.len(), a.as_mut_ptr(), a.len(),
+            )
+        }
+    }
+
+    pub fn place(&mut self, ticket: &[u32], a: &mut [u32]) -> u64 {
+        let Rows { state: s, nodes: n, dots: d, rects: r, marks: m } = self;
+        unsafe {
+            raw::krakvinge_place(
+                s.as_mut_ptr(), s.len(), n.as_mut_ptr(), n.len(), d.as_mut_ptr(), d.len(), r.as_mut_ptr(), r.len(), m.as_mut_ptr(), m.len(),
+                ticket.as_ptr(), ticket.len(), a.as_mut_ptr(), a.len(),
             )
         }
     }
@@ -273,9 +325,27 @@ impl Tree {
         self.rows.state[9]
     }
 
+    /// How many changes were made since the tree was new: accepted inserts, placings and dots of patches, removes and cleanups that said yes.
+    pub fn changes(&self) -> u64 {
+        wide(self.rows.state[10], self.rows.state[11])
+    }
+
     /// Answers the number of splits. An ink is from 0 to 15.
     pub fn insert(&mut self, id: u32, rect: Rect, ink: u32) -> Result<u32, Refused> {
         let result = self.rows.insert(id, rect, ink, &mut self.answer);
+        Ok(self.accepted(result)?[0])
+    }
+
+    /// Answers the number of splits that the insert would make, and a ticket for it; changes nothing, and is refused as the insert would be.
+    pub fn ask(&mut self, id: u32, rect: Rect, ink: u32) -> Result<(u32, Ticket), Refused> {
+        let mut words = [0; 8];
+        let result = self.rows.ask(id, rect, ink, &mut words, &mut self.answer);
+        Ok((self.accepted(result)?[0], Ticket::of(&words)))
+    }
+
+    /// Inserts the ticket's dot, if the tree has not changed since the ask; answers the number of splits, as told.
+    pub fn place(&mut self, ticket: &Ticket) -> Result<u32, Refused> {
+        let result = self.rows.place(&ticket.words(), &mut self.answer);
         Ok(self.accepted(result)?[0])
     }
 
@@ -331,7 +401,7 @@ impl Tree {
     pub fn grid(&mut self, grid: &Grid, counts: &mut [u32]) -> Result<u64, Refused> {
         let result = self.rows.grid(grid, counts, &mut self.answer);
         let [low, high] = self.accepted(result)?;
-        Ok((high as u64) << 32 | low as u64)
+        Ok(wide(low, high))
     }
 
     fn accepted(&self, result: u64) -> Result<[u32; 2], Refused> {

@@ -3,7 +3,7 @@ use crate::calls::{Answer, Call, List, UNWRITTEN};
 use crate::faults::Fault;
 use crate::krakvinge::{Record, Rows};
 use crate::lists;
-use crate::port::Port;
+use crate::port::{count, set_count, Port};
 use crate::random::Random;
 
 const LISTS: u32 = 4_000;
@@ -22,11 +22,13 @@ enum Planted {
     MarkLeft,
     InkAlwaysTested,
     InkLost,
+    CountLost,
+    EveryRecordCounted,
 }
 
-const PLANTED: [Planted; 8] = {
+const PLANTED: [Planted; 10] = {
     use Planted::*;
-    [StopsAtRefusal, RefusalOffByOne, OtherKindAccepted, NothingStored, AnswersReversed, MarkLeft, InkAlwaysTested, InkLost]
+    [StopsAtRefusal, RefusalOffByOne, OtherKindAccepted, NothingStored, AnswersReversed, MarkLeft, InkAlwaysTested, InkLost, CountLost, EveryRecordCounted]
 };
 
 impl Planted {
@@ -42,6 +44,8 @@ impl Planted {
             (Planted::AnswersReversed, _) => answers.reverse(),
             (Planted::MarkLeft, _) if !rows.marks.is_empty() => rows.marks[0] = 1,
             (Planted::InkAlwaysTested, _) => bad_ink.into_iter().for_each(|at| answers[at] = REFUSED + 10),
+            (Planted::CountLost, _) => set_count(rows, count(before)),
+            (Planted::EveryRecordCounted, _) => set_count(rows, count(before).wrapping_add(records.len() as u64)),
             (Planted::InkLost, _) => inked.into_iter().for_each(|p| rows.dots[3 * p + 2] = 0),
             _ => {}
         }
@@ -55,7 +59,7 @@ struct Counts {
     records: u64,
     zero: u64,
     more: u64,
-    refused: [u64; 11],
+    refused: [u64; 17],
     // Records that are no insert, with an ink above 15.
     other_inks: u64,
 }
@@ -77,12 +81,12 @@ impl Counts {
     fn print(&self) -> bool {
         let of = |number: usize| self.refused[number];
         println!(
-            "differential: {} records in {} batches as the single calls (floors 200000 and 15000): {} answered 0 (100000), {} splits or yes (20000), refused 4 {} (2000), 5 {} (5000), 6 {} (10000), 7 {} (2000), 9 {} (5000), 10 {} (5000); no inserts with an ink above 15 {} (50000)",
-            self.records, self.batches, self.zero, self.more, of(4), of(5), of(6), of(7), of(9), of(10), self.other_inks
+            "differential: {} records in {} batches as the single calls (floors 200000 and 15000): {} answered 0 (100000), {} splits or yes (20000), refused 4 {} (2000), 5 {} (5000), 6 {} (10000), 7 {} (2000), 9 {} (5000), 10 {} (5000), 16 {} (5000); no inserts with an ink above 15 {} (50000)",
+            self.records, self.batches, self.zero, self.more, of(4), of(5), of(6), of(7), of(9), of(10), of(16), self.other_inks
         );
         self.records >= 200_000 && self.batches >= 15_000 && self.zero >= 100_000 && self.more >= 20_000
             && of(4) >= 2_000 && of(5) >= 5_000 && of(6) >= 10_000 && of(7) >= 2_000 && of(9) >= 5_000
-            && of(10) >= 5_000 && self.other_inks >= 50_000
+            && of(10) >= 5_000 && of(16) >= 5_000 && self.other_inks >= 50_000
     }
 }
 
@@ -132,7 +136,7 @@ fn differ(list: &List, random: &mut Random, planted: Planted, counts: &mut Count
 
 fn find(planted: Planted) -> bool {
     let mut random = Random(SEED);
-    let found = (0..LISTS).any(|_| differ(&lists::short(&mut random), &mut random, planted, &mut Counts::default()).is_some());
+    let found = (0..LISTS).any(|_| differ(&lists::counted(&mut random), &mut random, planted, &mut Counts::default()).is_some());
     if !found {
         println!("differential: {planted:?}, planted in a batch, was NOT FOUND");
     }
@@ -142,7 +146,7 @@ fn find(planted: Planted) -> bool {
 pub fn as_single_calls() -> bool {
     let (mut random, mut counts) = (Random(SEED), Counts::default());
     for _ in 0..LISTS {
-        let list = lists::short(&mut random);
+        let list = lists::counted(&mut random);
         if let Some(text) = differ(&list, &mut random, Planted::Nothing, &mut counts) {
             println!("differential: DIFFERENCE between a batch and single calls: {text}");
             return false;

@@ -53,24 +53,31 @@ impl fmt::Display for Call {
     }
 }
 
-// A fresh tree with its settings and room, and the calls on it.
+// A fresh tree with its settings and room, the count of changes that it begins with, and the calls on it.
 #[derive(Clone)]
 pub struct List {
     pub settings: Settings,
     pub groups: usize,
     pub places: usize,
+    pub changes: u64,
     pub calls: Vec<Call>,
 }
 
 impl List {
-    // The tree as a line.
+    // The tree as a line; a count that is not 0 as another.
     pub fn head(&self) -> String {
-        let s = &self.settings;
+        let (s, [low, high]) = (&self.settings, halves(self.changes));
+        let count = if self.changes == 0 { String::new() } else { format!("\nrecounted {low} {high}") };
         format!(
-            "tree {} {} {} {} {} {} {} {} {}",
+            "tree {} {} {} {} {} {} {} {} {}{count}",
             s.left, s.top, s.width, s.height, s.depth_limit, s.leaf_limit, s.smallest_cell, self.groups, self.places
         )
     }
+}
+
+// A number of 64 bits as two words, the low one first.
+pub fn halves(number: u64) -> [u32; 2] {
+    [number as u32, (number >> 32) as u32]
 }
 
 // What a call leaves, as the interface hands it over: the result, the answer row, the row that was lent.

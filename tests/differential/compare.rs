@@ -1,5 +1,5 @@
 // A list on both sides: every answer after every call, and the tree now and then. A list that differs is made smaller.
-use crate::calls::{Answer, Call, List, Rect};
+use crate::calls::{halves, Answer, Call, List, Rect};
 use crate::faults::Fault;
 use crate::krakvinge::Rows;
 use crate::original::{Original, BRANCH, NONE};
@@ -80,9 +80,9 @@ fn free_places_differ(original: &Original, rows: &Rows) -> Option<String> {
 // The state's words but the free place, and the marks.
 fn state_differs(list: &List, original: &Original, rows: &Rows) -> Option<String> {
     let fresh = Rows::new(&list.settings, 0, 0).state;
-    let (free, live) = (original.free_group(), original.live() as u32);
-    if rows.state[..7] != fresh[..7] || rows.state[7] != free || rows.state[9] != live {
-        return Some(format!("the state is {:?}, wanted free group {free}, live {live}", rows.state));
+    let (free, live, count) = (original.free_group(), original.live() as u32, original.changes);
+    if rows.state[..7] != fresh[..7] || rows.state[7] != free || rows.state[9] != live || rows.state[10..] != halves(count) {
+        return Some(format!("the state is {:?}, wanted free group {free}, live {live}, changes {count}", rows.state));
     }
     rows.marks.iter().any(|m| *m != 0).then(|| "a mark is left".to_string())
 }

@@ -4,10 +4,11 @@ use crate::calls::{Call, UNWRITTEN};
 use crate::krakvinge::{Grid, Patch, Rows, ALL_INKS};
 use crate::lists::short;
 use crate::original::NONE;
+use crate::port::{count, set_count};
 use crate::random::Random;
 
 const ROUNDS: u32 = 3_000;
-const KINDS: usize = 10;
+const KINDS: usize = 12;
 
 fn call(rows: &mut Rows, kind: usize, words: &mut [u32], ids: &mut [u32], numbers: &mut [i32]) -> u64 {
     match kind {
@@ -20,6 +21,9 @@ fn call(rows: &mut Rows, kind: usize, words: &mut [u32], ids: &mut [u32], number
         6 => rows.references(words),
         7 => rows.grid(&Grid { x: 0, y: 0, width: 4, height: 4, columns: 2, rows: 3 }, ids, words),
         8 => rows.patch(&Patch { x: 0, y: 0, columns: 1, rows: 1, tint: 2, first_id: 9 }, words),
+        9 => rows.ask(1, [1, 1, 2, 2], 3, &mut ids[..8], words),
+        // with a count that is not the tree's: 15 comes later
+        10 => rows.place(&[1, 1, 1, 2, 2, 3, 7, 7], words),
         _ => rows.batch(&[0, 1, 1, 1, 2, 2, 3, 1, 1, 1, 1, 2, 2, 3], words),
     }
 }
@@ -27,7 +31,7 @@ fn call(rows: &mut Rows, kind: usize, words: &mut [u32], ids: &mut [u32], number
 // One thing made wrong; the refusal that follows, and the length of the answer row.
 fn damage(random: &mut Random, rows: &mut Rows) -> (u64, usize) {
     match random.below(15) {
-        0 => rows.state.truncate(random.below(10) as usize),
+        0 => rows.state.truncate(random.below(12) as usize),
         1 => rows.state.push(0),
         2 => return (1, 0),
         3 => return (1, 1),
@@ -90,7 +94,13 @@ fn round(random: &mut Random, counts: &mut [u64; 4], inks: &mut [u64; 3]) -> Res
         refused(random, rows, kind, refusal, words).map_err(|text| format!("{}: {text}", list.head()))?;
     }
     other_inks(random, &tree, inks).map_err(|text| format!("{}: {text}", list.head()))?;
-    broken_records(&tree, counts)
+    broken_records(&tree, counts)?;
+    broken_tickets(&tree, counts)?;
+    set_count(&mut tree, random.next());
+    if tree.check() != 0 {
+        return Err(format!("{}: the count {} is refused", list.head(), count(&tree)));
+    }
+    Ok(())
 }
 
 // The places that are free.
@@ -133,6 +143,19 @@ fn broken_records(tree: &Rows, counts: &mut [u64; 4]) -> Result<(), String> {
         counts[1] += 1;
         if result != 1 || rows != *tree || answers.iter().any(|w| *w != UNWRITTEN) {
             return Err(format!("a batch of {words} words: {result}, wanted 1"));
+        }
+    }
+    Ok(())
+}
+
+// Rows of tickets that are too short or too long.
+fn broken_tickets(tree: &Rows, counts: &mut [u64; 4]) -> Result<(), String> {
+    for words in [0, 1, 7, 9] {
+        let (mut rows, mut ticket, mut answer) = (tree.clone(), vec![UNWRITTEN; words], [UNWRITTEN; 2]);
+        let results = [rows.ask(1, [1, 1, 2, 2], 3, &mut ticket, &mut answer), rows.place(&ticket, &mut answer)];
+        counts[1] += 2;
+        if results != [1; 2] || rows != *tree || ticket.iter().chain(&answer).any(|w| *w != UNWRITTEN) {
+            return Err(format!("a ticket of {words} words: {results:?}, wanted 1"));
         }
     }
     Ok(())

@@ -1,6 +1,7 @@
 // The rows of docs/DIFFERENCES.md, each by its smallest input on both sides.
 use crate::calls::{Rect, Settings};
 use crate::krakvinge::{Refused, Rows, Tree, ALL_INKS};
+use crate::port::set_count;
 use crate::quadtree::quad_rect::QuadRect;
 use crate::quadtree::quadtree::{QuadTree, QuadTreeElement};
 use crate::quadtree::AABB;
@@ -111,8 +112,16 @@ fn ink_above_15() -> bool {
     takes(&mut original(&ROOT), 1, [1, 1, 2, 2]) && number(ours.insert(1, [1, 1, 2, 2], 16)) == 10 && ours.insert(1, [1, 1, 2, 2], 15) == Ok(0)
 }
 
+// The original does not count its changes.
+fn largest_count() -> bool {
+    let mut ours = Rows::new(&ROOT, 0, 1);
+    let made = ours.make() == 0;
+    set_count(&mut ours, u64::MAX);
+    made && takes(&mut original(&ROOT), 1, [1, 1, 2, 2]) && ours.insert(1, [1, 1, 2, 2], 0, &mut [0; 2]) == 16
+}
+
 pub fn as_documented() -> bool {
-    let rows: [(&str, fn() -> bool); 11] = [
+    let rows: [(&str, fn() -> bool); 12] = [
         ("freed places", freed_places),
         ("an inverted dot", inverted_dot),
         ("a coordinate beyond 2^30", far_coordinate),
@@ -124,6 +133,7 @@ pub fn as_documented() -> bool {
         ("no free group", no_group),
         ("a row that is too short", short_row),
         ("an ink above 15", ink_above_15),
+        ("the largest count of changes", largest_count),
     ];
     let wrong: Vec<&str> = rows.iter().filter(|(_, holds)| !holds()).map(|(name, _)| *name).collect();
     println!("differential: {} documented differences hold, of {}{}", rows.len() - wrong.len(), rows.len(), wrong.iter().map(|w| format!("; NOT: {w}")).collect::<String>());

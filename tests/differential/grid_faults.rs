@@ -1,7 +1,7 @@
 // Faults to plant in a grid report.
-use crate::calls::{Answer, Rect};
+use crate::calls::{halves, Answer, Rect};
 use crate::damaged::free;
-use crate::grids::{corner_fits, words, Asked};
+use crate::grids::{corner_fits, Asked};
 use crate::krakvinge::{Grid, Rows, ALL_INKS};
 
 #[derive(Clone, Copy, PartialEq, Debug)]
@@ -60,7 +60,7 @@ fn change(asked: &Asked, answer: &mut Answer, more: impl Fn(usize, &Rect) -> i64
     for (at, window) in windows.iter().enumerate() {
         answer.row[at] += more(at, window);
     }
-    answer.words = words(answer.row[..windows.len()].iter().sum::<i64>() as u64);
+    answer.words = halves(answer.row[..windows.len()].iter().sum::<i64>() as u64);
 }
 
 // The dots' rectangles.

@@ -1,5 +1,5 @@
 // The grid report against the original: the count of a window is the number of ids that the original lists for its rectangle.
-use crate::calls::{Answer, Call, List, Rect, Settings, UNWRITTEN};
+use crate::calls::{halves, Answer, Call, List, Rect, Settings, UNWRITTEN};
 use crate::faults::Fault;
 use crate::grid_faults::{Planted, PLANTED};
 use crate::krakvinge::{Grid, Rows};
@@ -98,10 +98,6 @@ pub fn corner_fits(g: &Grid) -> bool {
     end(g.x, g.width, g.columns) <= HIGHEST && end(g.y, g.height, g.rows) <= HIGHEST
 }
 
-pub fn words(total: u64) -> [u32; 2] {
-    [total as u32, (total >> 32) as u32]
-}
-
 // The original's answer: a query for each window. The refusals are those of §19.
 fn wanted(original: &Original, asked: &Asked) -> Answer {
     if !sizes_fit(&asked.grid) {
@@ -121,7 +117,7 @@ fn wanted(original: &Original, asked: &Asked) -> Answer {
         *word = count as i64;
         total += count as u64;
     }
-    answer.words = words(total);
+    answer.words = halves(total);
     answer
 }
 

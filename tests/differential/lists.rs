@@ -188,7 +188,16 @@ pub fn list(random: &mut Random, places: usize, groups: usize, length: usize) ->
             calls.extend(ask(random, &spots, &inks, places, &given));
         }
     }
-    List { settings, groups, places, calls }
+    List { settings, groups, places, changes: 0, calls }
+}
+
+// The count that a list begins with: 0, or one that its changes take over the end of the low word, or to the largest.
+pub fn count(random: &mut Random) -> u64 {
+    match random.below(8) {
+        0 => u32::MAX as u64 - random.below(60),
+        1 | 2 => u64::MAX - random.below(60),
+        _ => 0,
+    }
 }
 
 // A short list in a small memory.
@@ -197,6 +206,12 @@ pub fn short(random: &mut Random) -> List {
     let groups = random.pick(&[0, 1, 2, 3, 5, 8, 16, 32, 64, 64, 64, 64]);
     let length = random.between(40, 400) as usize;
     list(random, places, groups, length)
+}
+
+// A short list that may begin near an end of the count.
+pub fn counted(random: &mut Random) -> List {
+    let list = short(random);
+    List { changes: count(random), ..list }
 }
 
 // A list with thousands of dots: mostly inserts at first, then changes and questions, then removes and cleanups.
@@ -218,5 +233,5 @@ pub fn long(random: &mut Random) -> List {
             }
         }
     }
-    List { settings, groups: 4096, places: 4096, calls }
+    List { settings, groups: 4096, places: 4096, changes: 0, calls }
 }

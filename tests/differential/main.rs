@@ -6,6 +6,7 @@
 //     differential --batches          batches against single calls
 //     differential --grids            grid reports against the original's queries
 //     differential --patches          patches against the original's inserts
+//     differential --tickets          asks, placings and the count of changes against the original's inserts
 //     differential --damaged          rows of wrong lengths, settings out of range and damaged trees, which every call turns down
 mod batches;
 mod calls;
@@ -29,6 +30,9 @@ mod patches;
 mod port;
 #[path = "../random.rs"]
 mod random;
+mod ticket_counts;
+mod ticket_faults;
+mod tickets;
 
 include!(concat!(env!("ORIGINAL"), "/modules.rs"));
 
@@ -98,9 +102,9 @@ pub fn recorded(call: &Call, answer: &Answer) -> String {
     format!(" {first} {second}{row}")
 }
 
-// Short lists in turn until the text is long enough; grids and patches after each.
+// Short lists in turn until the text is long enough; after each grids, patches, and a list with tickets.
 fn record() -> bool {
-    let (mut random, mut chance, mut tints) = (Random(7), Random(64), Random(256));
+    let (mut random, mut chance, mut tints, mut asks) = (Random(7), Random(64), Random(256), Random(15));
     let mut size = 0;
     while size < 300_000 {
         let mut list = lists::short(&mut random);
@@ -115,7 +119,7 @@ fn record() -> bool {
         }
         size += text.len();
         print!("{text}");
-        for recorded in [grids::recorded(&list, &mut chance), patches::recorded(&list, &mut tints)] {
+        for recorded in [grids::recorded(&list, &mut chance), patches::recorded(&list, &mut tints), tickets::recorded(&mut asks)] {
             match recorded {
                 Ok(text) => print!("{text}"),
                 Err(text) => {
@@ -137,6 +141,7 @@ fn main() {
         Some("--batches") => batches::as_single_calls(),
         Some("--grids") => grids::as_queries(),
         Some("--patches") => patches::as_inserts(),
+        Some("--tickets") => tickets::as_inserts(),
         Some("--damaged") => damaged::turned_down(),
         Some("--differences") => differences::as_documented(),
         _ => compare_lists(number(0, CALLS), number(1, SEED)),

@@ -1,5 +1,6 @@
 // The original's answers, in the interface's words. What it does not have comes from the rules of docs/SPECIFICATION.md over its own tree. Inks are
-// carried by the ids of a second tree of the original's, which gets the same calls.
+// carried by the ids of a second tree of the original's, which gets the same calls. What would pass the largest count of changes is carried out to see
+// whether it is a change; then the trees are made anew without it.
 use crate::calls::{Answer, Call, List, Rect, Settings};
 use crate::geometry::{contains, is_refused_4, Cell};
 use crate::inked::Inked;
@@ -17,6 +18,9 @@ pub struct Original {
     groups: usize,
     places: usize,
     live: usize,
+    // The count of changes, and the changes made.
+    pub changes: u64,
+    done: Vec<Call>,
     // The dots that the last query met and its mask left out.
     hidden: usize,
 }
@@ -27,8 +31,41 @@ fn fresh<Id: ElementIdType>(s: &Settings) -> QuadTree<Id> {
 
 impl Original {
     pub fn new(list: &List) -> Original {
-        let s = list.settings;
-        Original { tree: fresh(&s), inked: fresh(&s), settings: s, groups: list.groups, places: list.places, live: 0, hidden: 0 }
+        Original::with(list.settings, list.groups, list.places, list.changes)
+    }
+
+    fn with(s: Settings, groups: usize, places: usize, changes: u64) -> Original {
+        Original { tree: fresh(&s), inked: fresh(&s), settings: s, groups, places, live: 0, changes, done: vec![], hidden: 0 }
+    }
+
+    // How many changes were made.
+    pub fn made(&self) -> usize {
+        self.done.len()
+    }
+
+    // Made anew with the first so many of the changes, and a count.
+    pub fn back_to(&mut self, made: usize, changes: u64) {
+        let done = std::mem::take(&mut self.done);
+        *self = Original::with(self.settings, self.groups, self.places, 0);
+        for call in &done[..made] {
+            self.answer(call);
+        }
+        self.changes = changes;
+    }
+
+    // A change is counted, or refused 16.
+    fn counted(&mut self, call: &Call, words: [u32; 2]) -> Answer {
+        self.done.push(*call);
+        match self.changes.checked_add(1) {
+            Some(changes) => {
+                self.changes = changes;
+                Answer::accepted(words)
+            }
+            None => {
+                self.back_to(self.done.len() - 1, self.changes);
+                Answer::refused(16, call)
+            }
+        }
     }
 
     pub fn live(&self) -> usize {
@@ -118,21 +155,25 @@ impl Original {
         }
         assert!(self.inked.insert(QuadTreeElement::new(dot, AABB::from(rect))).is_ok(), "the original's trees take other dots");
         self.live += 1;
-        Answer::accepted([(self.used() - used) as u32, 0])
+        self.counted(call, [(self.used() - used) as u32, 0])
     }
 
-    fn remove(&mut self, id: u32, rect: Rect) -> Answer {
+    fn yes_or_no(&mut self, call: &Call, yes: bool) -> Answer {
+        if yes { self.counted(call, [1, 0]) } else { Answer::accepted([0, 0]) }
+    }
+
+    fn remove(&mut self, id: u32, rect: Rect, call: &Call) -> Answer {
         let yes = self.tree.remove(&QuadTreeElement::new(id, AABB::from(rect)));
         let dot = Inked { id, ink: 0 };
         assert_eq!(yes, self.inked.remove(&QuadTreeElement::new(dot, AABB::from(rect))), "the original's trees lose other dots");
         self.live -= yes as usize;
-        Answer::accepted([yes as u32, 0])
+        self.yes_or_no(call, yes)
     }
 
-    fn cleanup(&mut self) -> Answer {
+    fn cleanup(&mut self, call: &Call) -> Answer {
         let yes = self.tree.cleanup();
         assert_eq!(yes, self.inked.cleanup(), "the original's trees are cleaned up differently");
-        Answer::accepted([yes as u32, 0])
+        self.yes_or_no(call, yes)
     }
 
     // All that the rectangle meets, in the original's order; of these, the ids of the inks in the mask.
@@ -162,8 +203,8 @@ impl Original {
     pub fn answer(&mut self, call: &Call) -> Answer {
         match *call {
             Call::Insert(id, rect, ink) => self.insert(Inked { id, ink }, rect, call),
-            Call::Remove(id, rect) => self.remove(id, rect),
-            Call::Cleanup => self.cleanup(),
+            Call::Remove(id, rect) => self.remove(id, rect, call),
+            Call::Cleanup => self.cleanup(call),
             Call::Query(rect, inks, _) => self.query(rect, inks, call),
             Call::Leaves(_) => self.leaves(call),
             Call::All(_) => {

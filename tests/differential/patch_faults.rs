@@ -3,6 +3,7 @@ use crate::calls::{Answer, Call};
 use crate::krakvinge::{Patch, Rows};
 use crate::original::NONE;
 use crate::patches::{insert, places, refused, Ended};
+use crate::port::{count, set_count};
 
 #[derive(Clone, Copy, PartialEq, Debug)]
 pub enum Planted {
@@ -22,13 +23,19 @@ pub enum Planted {
     RefusedAsTheDot,
     MarksLeft,
     MarksClearedBy13,
+    CountedOnce,
+    CountAs14,
+    CountTestedFirst,
+    CountWraps,
+    LastCountRefused,
 }
 
-pub const PLANTED: [Planted; 15] = {
+pub const PLANTED: [Planted; 20] = {
     use Planted::*;
     [
         LaysUntilRefused, ColumnsBeforeRows, TileByTile, TilesSwapped, ThresholdAtMost, IdsFromTheNext, OneId, InkOfTheNumber, NumberOfTheTiles,
-        LastGroupRefused, LastPlaceRefused, LastIdRefused, RefusedAsTheDot, MarksLeft, MarksClearedBy13,
+        LastGroupRefused, LastPlaceRefused, LastIdRefused, RefusedAsTheDot, MarksLeft, MarksClearedBy13, CountedOnce, CountAs14, CountTestedFirst,
+        CountWraps, LastCountRefused,
     ]
 };
 
@@ -73,6 +80,16 @@ impl Planted {
             (Planted::LaysUntilRefused, Some(Ended::Refused(laid, _))) => *rows = with(before, laid.iter().copied()),
             (Planted::RefusedAsTheDot, Some(Ended::Refused(_, number))) => answer.result = *number,
             (Planted::ColumnsBeforeRows | Planted::TileByTile, Some(Ended::Laid(_))) => *rows = with(before, self.reordered(p).into_iter()),
+            (Planted::CountedOnce, Some(Ended::Laid(calls))) if !calls.is_empty() => set_count(rows, count(before) + 1),
+            (Planted::CountAs14, Some(Ended::Passes(_))) => answer.result = 14,
+            (Planted::CountTestedFirst, Some(Ended::Refused(..))) if places(p).count() as u64 > u64::MAX - count(before) => answer.result = 16,
+            (Planted::CountWraps, Some(Ended::Passes(calls))) => {
+                let mut start = before.clone();
+                set_count(&mut start, 0);
+                *rows = with(&start, calls.iter().copied());
+                set_count(rows, count(before).wrapping_add(calls.len() as u64));
+                *answer = Answer::accepted([calls.len() as u32, 0]);
+            }
             (Planted::NumberOfTheTiles, Some(Ended::Laid(_))) => answer.words[0] = p.columns * p.rows,
             (Planted::OneId, Some(Ended::Laid(calls))) => {
                 let same = calls.iter().map(|call| if let Call::Insert(_, rect, ink) = *call { Call::Insert(p.first_id, rect, ink) } else { *call });
@@ -96,6 +113,7 @@ impl Planted {
         match self {
             Planted::LastGroupRefused => rows.state[7] == NONE,
             Planted::LastPlaceRefused => rows.state[8] == NONE,
+            Planted::LastCountRefused => count(rows) == u64::MAX,
             Planted::LastIdRefused => p.first_id as u64 + calls.len() as u64 == 1 << 32,
             _ => false,
         }

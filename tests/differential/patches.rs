@@ -1,4 +1,5 @@
-// Patches against the original: the same dots, inserted into it one by one. Where one of them is refused, the original is made anew without them.
+// Patches against the original: the same dots, inserted into it one by one. Where one of them is refused, or they pass the largest count of changes, the
+// original is made anew without them.
 use crate::calls::{Answer, Call, List, Rect, Settings, UNWRITTEN};
 use crate::compare;
 use crate::faults::Fault;
@@ -6,10 +7,10 @@ use crate::krakvinge::{Patch, Rows};
 use crate::lists;
 use crate::original::{Original, NONE};
 use crate::patch_faults::{Planted, PLANTED};
-use crate::port::Port;
+use crate::port::{count, Port};
 use crate::random::Random;
 
-const LISTS: u32 = 6_000;
+const LISTS: u32 = 8_000;
 const SEED: u64 = 256;
 // Patches that are recorded after each list.
 const RECORDED: u32 = 4;
@@ -80,39 +81,37 @@ fn any(random: &mut Random, s: &Settings) -> Patch {
     Patch { x: corner(random, s.left, s.width), y: corner(random, s.top, s.height), columns, rows, tint, first_id }
 }
 
-// Both sides, a third tree that gets single inserts, and all changes so far.
+// Both sides, and a third tree that gets single inserts.
 struct Sides<'a> {
     list: &'a List,
     original: Original,
     port: Port,
     single: Port,
-    changes: Vec<Call>,
-    // Whether the last patch was refused as 14.
-    refused: bool,
 }
 
-// How a patch ended on the original: its dots, or the refusal of its last dot, by number; 0 for a dot that fits no word.
+// How a patch ended on the original: its dots; or those before the one that is refused, and the number of that refusal, 0 for a dot that fits no word;
+// or dots that pass the largest count of changes.
 pub enum Ended {
     Laid(Vec<Call>),
     Refused(Vec<Call>, u64),
+    Passes(Vec<Call>),
 }
 
 impl Sides<'_> {
     fn new(list: &List) -> Sides {
         let port = || Port::new(list, Fault::None);
-        Sides { list, original: Original::new(list), port: port(), single: port(), changes: vec![], refused: false }
+        Sides { list, original: Original::new(list), port: port(), single: port() }
     }
 
     fn change(&mut self, call: &Call) -> bool {
-        self.changes.push(*call);
         let answer = self.original.answer(call);
         answer == self.port.answer(call) && answer == self.single.answer(call)
     }
 
-    // Each dot in its turn.
+    // Each dot in its turn, as if the count had no end.
     fn lay(&mut self, p: &Patch) -> Ended {
-        let mut laid = vec![];
-        let mut refused = None;
+        let (made, changes) = (self.original.made(), std::mem::take(&mut self.original.changes));
+        let (mut laid, mut refused) = (vec![], None);
         for (number, place) in places(p).enumerate() {
             let call = insert(p, number, place);
             let result = call.map_or(0, |call| self.original.answer(&call).result);
@@ -122,19 +121,21 @@ impl Sides<'_> {
             }
             laid.extend(call);
         }
-        let Some(number) = refused else {
-            return Ended::Laid(laid);
+        let ended = match (refused, changes.checked_add(laid.len() as u64)) {
+            (None, Some(changes)) => {
+                self.original.changes = changes;
+                return Ended::Laid(laid);
+            }
+            (None, None) => Ended::Passes(laid),
+            (Some(number), _) => Ended::Refused(laid, number),
         };
-        self.original = Original::new(self.list);
-        for change in &self.changes {
-            self.original.answer(change);
-        }
-        Ended::Refused(laid, number)
+        self.original.back_to(made, changes);
+        ended
     }
 
-    // One patch on both sides: the answer, and every word.
-    fn patch(&mut self, p: &Patch, planted: Planted, counts: &mut Counts) -> Option<String> {
-        let seed = self.changes.len();
+    // One patch on both sides: the answer, and every word. Tells the result.
+    fn patch(&mut self, p: &Patch, planted: Planted, counts: &mut Counts) -> Result<u64, String> {
+        let seed = self.original.made();
         self.port.rows.marks.iter_mut().enumerate().for_each(|(i, m)| *m = (seed + 7 * i + 1) as u8);
         let before = self.port.rows.clone();
         let mut ours = answered(&mut self.port.rows, &planted.spoil_asked(p));
@@ -144,25 +145,25 @@ impl Sides<'_> {
             let same = ours == refused(13) && self.port.rows == before;
             self.port.rows = before;
             self.port.rows.marks.fill(0);
-            return (!same).then(|| format!("{p:?}: {ours:?}, wanted 13 and every row as it was"));
+            return if same { Ok(13) } else { Err(format!("{p:?}: {ours:?}, wanted 13 and every row as it was")) };
         }
         let ended = self.lay(p);
-        self.refused = matches!(ended, Ended::Refused(..));
         planted.spoil(p, Some(&ended), &before, &mut self.port.rows, &mut ours);
         let theirs = match &ended {
             Ended::Laid(calls) => Answer::accepted([calls.len() as u32, 0]),
             Ended::Refused(..) => refused(14),
+            Ended::Passes(_) => refused(16),
         };
         if let Ended::Laid(calls) = &ended {
             calls.iter().for_each(|call| assert_eq!(self.single.answer(call).result, 0));
-            self.changes.extend(calls);
         }
         // the marks that the single inserts met are another matter
         self.single.rows.marks.fill(0);
         counts.tell(&ended, &self.port.rows);
         let text = (ours != theirs).then(|| format!("the original's inserts: {theirs:?}, the port: {ours:?}"));
         let text = text.or_else(|| (self.port.rows != self.single.rows).then(|| "other words than after the single inserts".to_string()));
-        text.or_else(|| compare::memory_differs(self.list, &self.original, &self.port.rows)).map(|text| format!("{p:?}: {text}"))
+        let text = text.or_else(|| compare::memory_differs(self.list, &self.original, &self.port.rows));
+        text.map_or(Ok(theirs.result), |text| Err(format!("{p:?}: {text}")))
     }
 }
 
@@ -185,7 +186,9 @@ struct Counts {
     // Patches that took the last free group, and refused ones that laid some dots first on the original.
     last_group: u64,
     late: u64,
-    refused: [u64; 14],
+    // Patches that reached the largest count.
+    last_count: u64,
+    refused: [u64; 17],
 }
 
 impl Counts {
@@ -196,7 +199,9 @@ impl Counts {
                 self.dots += calls.len() as u64;
                 self.empty += calls.is_empty() as u64;
                 self.last_group += (rows.state[7] == NONE && !calls.is_empty()) as u64;
+                self.last_count += (count(rows) == u64::MAX && !calls.is_empty()) as u64;
             }
+            Ended::Passes(_) => self.refused[16] += 1,
             Ended::Refused(laid, number) => {
                 self.late += !laid.is_empty() as u64;
                 self.refused[*number as usize] += 1;
@@ -207,16 +212,17 @@ impl Counts {
     fn print(&self) -> bool {
         let of = |number: usize| self.refused[number];
         println!(
-            "differential: {} patches of {} dots as the original's inserts (floors 10000 and 200000): {} without a dot (500), {} to the last group (300); \
-             refused 13 {} (5000); 14 for 4 {} (1000), 5 {} (5000), 6 {} (1000), 7 {} (1000), a number that fits no word {} (500), after some dots {} (5000)",
-            self.accepted, self.dots, self.empty, self.last_group, of(13), of(4), of(5), of(6), of(7), of(0), self.late
+            "differential: {} patches of {} dots as the original's inserts (floors 10000 and 200000): {} without a dot (500), {} to the last group (300), \
+             {} to the largest count (50); refused 13 {} (5000), 16 {} (500); 14 for 4 {} (1000), 5 {} (5000), 6 {} (1000), 7 {} (1000), \
+             a number that fits no word {} (500), after some dots {} (5000)",
+            self.accepted, self.dots, self.empty, self.last_group, self.last_count, of(13), of(16), of(4), of(5), of(6), of(7), of(0), self.late
         );
-        self.accepted >= 10_000 && self.dots >= 200_000 && self.empty >= 500 && self.last_group >= 300
-            && of(13) >= 5_000 && of(4) >= 1_000 && of(5) >= 5_000 && of(6) >= 1_000 && of(7) >= 1_000 && of(0) >= 500 && self.late >= 5_000
+        self.accepted >= 10_000 && self.dots >= 200_000 && self.empty >= 500 && self.last_group >= 300 && self.last_count >= 50
+            && of(16) >= 500 && of(13) >= 5_000 && of(4) >= 1_000 && of(5) >= 5_000 && of(6) >= 1_000 && of(7) >= 1_000 && of(0) >= 500 && self.late >= 5_000
     }
 }
 
-// A list in a memory of any size, most films wide enough for a tile.
+// A list in a memory of any size, most films wide enough for a tile; some near the largest count.
 fn list(random: &mut Random) -> List {
     let (places, groups) = (random.pick(&[8, 40, 300, 2000, 2000]), random.pick(&[0, 1, 3, 8, 40, 200, 600, 600]));
     let length = random.between(5, 60) as usize;
@@ -225,6 +231,7 @@ fn list(random: &mut Random) -> List {
         let s = &mut list.settings;
         (s.left, s.top, s.width, s.height) = (random.between(-60, 60) as i32, random.between(-60, 60) as i32, random.between(15, 140) as i32, random.between(15, 140) as i32);
     }
+    list.changes = lists::count(random);
     list
 }
 
@@ -236,8 +243,8 @@ fn differ(list: &List, random: &mut Random, planted: Planted, counts: &mut Count
         }
         if random.one_in(2) {
             let p = any(random, &list.settings);
-            if let Some(text) = sides.patch(&p, planted, counts) {
-                return Some(format!("{}: after {} changes: {text}", list.head(), sides.changes.len()));
+            if let Err(text) = sides.patch(&p, planted, counts) {
+                return Some(format!("{}: after {} changes: {text}", list.head(), sides.original.made()));
             }
         }
     }
@@ -263,17 +270,11 @@ pub fn recorded(list: &List, random: &mut Random) -> Result<String, String> {
     for _ in 0..RECORDED {
         let p = any(random, &list.settings);
         let before = sides.original.live();
-        if let Some(text) = sides.patch(&p, Planted::Nothing, &mut Counts::default()) {
-            return Err(text);
-        }
+        let result = sides.patch(&p, Planted::Nothing, &mut Counts::default())?;
         let Patch { x, y, columns, rows, tint, first_id } = p;
         text += &format!("patch {x} {y} {columns} {rows} {tint} {first_id} = ");
         let laid = sides.original.live() - before;
-        text += &match (fits(&p), sides.refused) {
-            (false, _) => "13\n".to_string(),
-            (true, true) => "14\n".to_string(),
-            (true, false) => format!("0 {laid} 0\n"),
-        };
+        text += &if result == 0 { format!("0 {laid} 0\n") } else { format!("{result}\n") };
         let all = Call::All(list.places);
         let answer = sides.original.answer(&all);
         text += &format!("{all} = {}{}\n", answer.result, crate::recorded(&all, &answer));

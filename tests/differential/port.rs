@@ -1,7 +1,16 @@
 // The port's answers, through the host's interface. A fault can be planted between the library and the comparison.
-use crate::calls::{Answer, Call, List, UNWRITTEN};
+use crate::calls::{halves, Answer, Call, List, UNWRITTEN};
 use crate::faults::Fault;
 use crate::krakvinge::Rows;
+
+// The count of changes in the state row.
+pub fn count(rows: &Rows) -> u64 {
+    (rows.state[11] as u64) << 32 | rows.state[10] as u64
+}
+
+pub fn set_count(rows: &mut Rows, changes: u64) {
+    rows.state[10..].copy_from_slice(&halves(changes));
+}
 
 pub struct Port {
     pub rows: Rows,
@@ -12,13 +21,15 @@ pub struct Port {
 impl Port {
     pub fn new(list: &List, fault: Fault) -> Port {
         let mut rows = Rows::new(&list.settings, list.groups, list.places);
+        set_count(&mut rows, u64::MAX);
         let result = rows.make();
-        assert!(result == 0, "make refuses {result}: {}", list.head());
+        assert!(result == 0 && count(&rows) == 0, "make refuses {result}, or leaves a count: {}", list.head());
+        set_count(&mut rows, list.changes);
         Port { rows, fault, calls: 0 }
     }
 
     // Marks may hold anything before a call.
-    fn soil(&mut self) {
+    pub fn soil(&mut self) {
         self.calls += 1;
         let seed = self.calls;
         if seed % 3 == 0 {

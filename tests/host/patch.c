@@ -84,7 +84,7 @@ static bool stands(const struct trial *t) {
                     return false;
                 n++;
             }
-    return n == t->laid && film.state[9] == n && krakvinge_check(TREE(film, right(t))) == 0;
+    return n == t->laid && film.state[9] == n && KRAKVINGE_CHANGES(film.state) == n && krakvinge_check(TREE(film, right(t))) == 0;
 }
 
 static bool makes(const struct trial *t) {

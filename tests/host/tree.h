@@ -29,7 +29,7 @@ static struct lengths lengths_of(size_t groups, size_t places) {
 
 /* Lengths of which the i-th is wrong, and what it is. */
 static const char *const WRONG[] = {
-    "a state of 9 words", "the nodes' length", "the dots' length", "the rects' length", "the marks' length", "an answer of 1 word", "an answer of 3 words",
+    "a state of 11 words", "the nodes' length", "the dots' length", "the rects' length", "the marks' length", "an answer of 1 word", "an answer of 3 words",
 };
 
 static struct lengths wrong(struct lengths l, size_t i) {

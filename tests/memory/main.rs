@@ -57,7 +57,7 @@ fn rect(random: &mut Random, s: &Settings) -> Rect {
 fn garbage(random: &mut Random) -> Memory {
     let s = settings(random);
     let (groups, places) = (random.below(30) as usize, random.below(50) as usize);
-    let mut m = Memory::fresh(s, groups, places);
+    let mut m = Memory { changes: changes(random), ..Memory::fresh(s, groups, places) };
     m.nodes.iter_mut().for_each(|w| *w = random.next() as u32);
     m.dots.iter_mut().for_each(|w| *w = random.next() as u32);
     m.rects.iter_mut().for_each(|w| *w = random.next() as i32);
@@ -92,6 +92,11 @@ fn word(random: &mut Random, m: &Memory) -> u32 {
 // An ink at or near an end of the range, or any word.
 fn ink(random: &mut Random) -> u32 {
     if random.one_in(8) { random.next() as u32 } else { random.pick(&[0, 1, 5, 14, 15, 16, 17, 31, NONE]) }
+}
+
+// A count of changes: of a tree that is new, at an end of a word, or any.
+fn changes(random: &mut Random) -> u64 {
+    if random.one_in(3) { random.next() } else { random.pick(&[0, 1, 4294967295, 4294967296, u64::MAX - 1, u64::MAX]) }
 }
 
 // One damage: of any word, or of one of the kinds that a check may miss.
@@ -211,8 +216,9 @@ fn round(random: &mut Random, made: &mut [u64; 4], counts: &mut [u64; 4], inks: 
         return;
     }
     assert!(state == fresh.state(), "the state after make: {before:?}");
-    let mut m = Memory { free_group: state[7], free_place: state[8], live: state[9], ..lent };
+    let mut m = Memory { free_group: state[7], free_place: state[8], live: state[9], changes: 0, ..lent };
     assert!(m == fresh, "the words after make: {before:?}");
+    m.changes = changes(random);
     let mut kept = vec![];
     for _ in 0..random.below(90) {
         if random.one_in(4) && !kept.is_empty() {
@@ -253,6 +259,7 @@ fn edges(made: &mut [u64; 4], counts: &mut [u64; 4]) {
         m.rects.fill(-3);
         m.marks.fill(3);
         let mut state = m.state();
+        state[7..].fill(3);
         let answer = exports::make(&mut state, &mut m);
         let refused = groups > 16384 || places > 65536;
         assert!(answer == refused as u64, "make says {answer} for G = {groups}, N = {places}");

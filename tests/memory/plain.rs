@@ -11,6 +11,8 @@ pub struct Memory {
     pub free_group: u32,
     pub free_place: u32,
     pub live: u32,
+    // The count of changes: any is good.
+    pub changes: u64,
     pub nodes: Vec<u32>,
     pub dots: Vec<u32>,
     pub rects: Vec<i32>,
@@ -99,6 +101,7 @@ impl Memory {
             free_group: if groups == 0 { NONE } else { 1 },
             free_place: if places == 0 { NONE } else { 0 },
             live: 0,
+            changes: 0,
             nodes,
             dots,
             rects: vec![0; 4 * places],
@@ -385,7 +388,8 @@ impl Memory {
         let s = &self.settings;
         let limits = [s.depth_limit, s.leaf_limit, s.smallest_cell];
         let numbers = [s.left as u32, s.top as u32, s.width as u32, s.height as u32];
-        [&numbers[..], &limits[..], &[self.free_group, self.free_place, self.live][..]].concat()
+        let count = [self.changes as u32, (self.changes >> 32) as u32];
+        [&numbers[..], &limits[..], &[self.free_group, self.free_place, self.live][..], &count[..]].concat()
     }
 }
 

@@ -142,6 +142,7 @@ class Evaluator:
         'refusedWord': (1, Refused),
         'none': (0, lambda: 4294967295),
         'allInks': (0, lambda: 65535),
+        'largestCount': (0, lambda: 2 ** 64 - 1),
     }
 
     def __init__(self, source):
@@ -221,6 +222,13 @@ def geometry(settings, kind, *rest):
     fail(f'{kind} is no known trial')
 
 
+def halves(count):
+    """A number of 64 bits as two words, the low one first."""
+    if not isinstance(count, int) or not 0 <= count < 2 ** 64:
+        fail(f'{count} is no count of changes')
+    return [count % 2 ** 32, count // 2 ** 32]
+
+
 def answered(word):
     return [word.number] if isinstance(word, Refused) else [0, word, 0]
 
@@ -250,7 +258,25 @@ def line(room, kind, *rest):
         return [question('nodes', [], nodes), question('dots', [], dots)]
     if kind == 'freeGroups':
         return [question('freegroups', [], *rest)]
+    if kind in ('ask', 'placeBy', 'changes', 'recounted'):
+        return counted(kind, *rest)
     fail(f'{kind} is no known line')
+
+
+def counted(kind, *rest):
+    """The lines of tickets, whose dots have the ink 0, and of the count of changes."""
+    if kind == 'ask':
+        number, rectangle, word, count = rest
+        dot = [number, *corners(rectangle), 0]
+        ticket = [] if isinstance(word, Refused) else [each % 2 ** 32 for each in dot] + halves(count)
+        return [question('ask', dot, answered(word) + ticket)]
+    if kind == 'placeBy':
+        number, rectangle, count, word = rest
+        return [question('place', [number, *corners(rectangle), 0, *halves(count)], answered(word))]
+    count, = rest
+    if kind == 'changes':
+        return [question('changes', [], halves(count))]
+    return [' '.join(['recounted', *map(shown, halves(count))])]
 
 
 def trial(evaluator, row):

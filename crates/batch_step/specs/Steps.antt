@@ -1,4 +1,5 @@
 -- What the steps of a batch leave.
+--     replyWord            the answer word of a reply
 --     RecordCarriedOut     what a record leaves, for every marks and shape that the words hold
 --     Stepped              the same with the answer row
 --     Begun                the check of all that a batch is lent
@@ -12,12 +13,18 @@ use Rattle.model.specs.declared.Record.{Record}
 use Rattle.model.specs.declared.State.{State}
 use Rattle.model.specs.Shapes.{Shape}
 use Rattle.model.specs.Layout.{world, Holds}
-use Rattle.model.specs.Calls.{Recorded, carryOut}
+use Rattle.model.specs.Calls.{Reply, refused, tooMany, answered, Recorded, refusedWord, carryOut}
 use Rattle.tree_check.specs.Checks.{Checked}
 use Rattle.batch_step.specs.declared.Batched.{Batched}
 
 abbrev pub recordOf : ℕ → Dot → Record
 recordOf kind dot = record { kind = kind; dot = dot }
+
+-- §10.4: the answer word of a reply
+abbrev pub replyWord : {A : Type 0} → (A → ℕ) → Reply A → ℕ
+replyWord word (refused k) = refusedWord k
+replyWord word (tooMany n) = refusedWord 8
+replyWord word (answered a) = word a
 
 -- the words hold the shape that the rule leaves, and the answer is its word
 abbrev pub RecordCarriedOut : (Shape → Recorded) → State → List ℕ → List ℕ → List ℤ → State → List ℕ → List ℕ → List ℤ → ℕ → Type 0

@@ -3,16 +3,15 @@ ghost use mathlib.Core.Path.{_≡_};
 ghost use Prim.Native.Nat.{_<_, _≤_};
 ghost use lib.ListN.{length};
 ghost use Rattle.model.specs.declared.Dot.{Dot};
-ghost use Rattle.model.specs.Calls.{carryOut, refusedWord};
+ghost use Rattle.model.specs.Calls.{refusal, carryOut, refusedWord, yesNo};
+ghost use Rattle.model.specs.Answers.{insertReply, insertState, yesNoReply, yesNoState};
 ghost use Rattle.tree.specs.Operations.{IsTree};
-ghost use Rattle.batch_step.specs.Steps.{recordOf, RecordCarriedOut, Stepped, Begun};
+ghost use Rattle.batch_step.specs.Steps.{recordOf, replyWord, RecordCarriedOut, Stepped, Begun};
 use model::Dot;
 use model::Record;
 use model::State;
-use model::answers::CleanupAnswer;
 use model::answers::InsertAnswer;
-use model::answers::RemoveAnswer;
-use model::yes_no;
+use model::answers::YesNoAnswer;
 use tree_check::check::check;
 use tree_cleanup::cleanup_tree;
 use tree_insert::insert_dot;
@@ -25,7 +24,7 @@ pub struct Batched {
     pub state: State,
 }
 
-// What a record leaves: its answer word, and the state after it. The settings are those before, so that a batch copies them once.
+// What a record leaves: its answer word, and the state after it.
 pub struct Recorded {
     pub word: u32,
     pub state: State,
@@ -37,6 +36,41 @@ fn refused_word(refusal: u32) -> u32
     ensures { λ r. ⌜ r ≡ refusedWord refusal ⌝ }
 {
     4294967040 + refusal
+}
+
+// An insert's answer, as its record leaves it.
+fn splits_record(state: State, answer: InsertAnswer) -> Recorded
+    requires { ⌜ refusal (insertReply answer) ≤ 255 ⌝ }
+    ensures { λ r. ⌜ (r .word ≡ replyWord (λ splits. splits) (insertReply answer)) × (r .state ≡ insertState state answer) ⌝ }
+{
+    match answer {
+        InsertAnswer::Refused(refusal) => Recorded {
+            word: refused_word(refusal),
+            state,
+        },
+        InsertAnswer::Splits(splits, next) => Recorded {
+            word: splits,
+            state: next,
+        },
+    }
+}
+
+// A remove's or a cleanup's answer, as its record leaves it.
+fn said_record(state: State, answer: YesNoAnswer) -> Recorded
+    requires { ⌜ refusal (yesNoReply answer) ≤ 255 ⌝ }
+    ensures { λ r. ⌜ (r .word ≡ replyWord yesNo (yesNoReply answer)) × (r .state ≡ yesNoState state answer) ⌝ }
+{
+    match answer {
+        YesNoAnswer::Refused(refusal) => Recorded {
+            word: refused_word(refusal),
+            state,
+        },
+        YesNoAnswer::Yes(next) => Recorded {
+            word: 1,
+            state: next,
+        },
+        YesNoAnswer::No => Recorded { word: 0, state },
+    }
 }
 
 // An insert, with its answer word.
@@ -51,16 +85,8 @@ fn insert_record(
     ensures { λ r. ⌜ RecordCarriedOut (carryOut (recordOf 0 dot)) state (now (nodes .entry)) (now (dots .entry)) (now (rects .entry)) (r .state)
         (now (nodes .exit)) (now (dots .exit)) (now (rects .exit)) (r .word) ⌝ }
 {
-    match insert_dot(state, nodes, dots, rects, dot) {
-        InsertAnswer::Refused(refusal) => Recorded {
-            word: refused_word(refusal),
-            state,
-        },
-        InsertAnswer::Splits(splits, next) => Recorded {
-            word: splits,
-            state: state.changed(next.free_group, next.free_place, next.live),
-        },
-    }
+    let answer = insert_dot(state, nodes, dots, rects, dot);
+    splits_record(state, answer)
 }
 
 // A remove, with its answer word.
@@ -75,17 +101,8 @@ fn remove_record(
     ensures { λ r. ⌜ RecordCarriedOut (carryOut (recordOf 1 dot)) state (now (nodes .entry)) (now (dots .entry)) (now (rects .entry)) (r .state)
         (now (nodes .exit)) (now (dots .exit)) (now (rects .exit)) (r .word) ⌝ }
 {
-    match remove_dot(state, nodes, dots, rects, dot.id, dot.rect) {
-        RemoveAnswer::Refused(refusal) => Recorded {
-            word: refused_word(refusal),
-            state,
-        },
-        RemoveAnswer::Yes(next) => Recorded {
-            word: 1,
-            state: state.changed(next.free_group, next.free_place, next.live),
-        },
-        RemoveAnswer::No => Recorded { word: 0, state },
-    }
+    let answer = remove_dot(state, nodes, dots, rects, dot.id, dot.rect);
+    said_record(state, answer)
 }
 
 // A cleanup, with its answer word; its record's dot is not looked at.
@@ -94,16 +111,8 @@ fn cleanup_record(state: State, nodes: &mut [u32], dots: &[u32], rects: &[i32]) 
     ensures { λ r. ⌜ ((dot : Dot) → RecordCarriedOut (carryOut (recordOf 2 dot)) state (now (nodes .entry)) (now (dots .entry)) (now (rects .entry))
         (r .state) (now (nodes .exit)) (now (dots .exit)) (now (rects .exit)) (r .word)) ⌝ }
 {
-    match cleanup_tree(state, nodes) {
-        CleanupAnswer::Refused(refusal) => Recorded {
-            word: refused_word(refusal),
-            state,
-        },
-        CleanupAnswer::Done(yes, next) => Recorded {
-            word: yes_no(yes),
-            state: state.changed(next.free_group, next.free_place, next.live),
-        },
-    }
+    let answer = cleanup_tree(state, nodes);
+    said_record(state, answer)
 }
 
 // A record is the single operation of its kind.
@@ -152,7 +161,8 @@ pub fn one(
     let state = batched.state;
     let done = carry_out(state, nodes, dots, rects, record);
     answers[i] = done.word;
-    let after = done.state;
+    // The settings are those before, so that a batch copies them once.
+    let after = state.followed_by(done.state);
     Batched {
         refusal: batched.refusal,
         count: batched.count,

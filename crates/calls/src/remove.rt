@@ -1,10 +1,10 @@
 // Remove: the first dot with an id in the leaf that a rectangle routes to.
 ghost use Rattle.model.specs.Layout.{world};
 ghost use Rattle.model.specs.Calls.{Remove};
-ghost use Rattle.model.specs.Answers.{removeReply, removeState};
+ghost use Rattle.model.specs.Answers.{yesNoReply, yesNoState};
 use geometry::aabb::AABB;
 use model::State;
-use model::answers::RemoveAnswer;
+use model::answers::YesNoAnswer;
 use tree_check::check::check;
 use tree_remove::remove_dot;
 
@@ -16,13 +16,13 @@ pub fn remove(
     marks: &mut [u8],
     id: u32,
     rect: AABB,
-) -> RemoveAnswer
+) -> YesNoAnswer
     ensures { λ r. ⌜ Remove (world state (now (nodes .entry)) (now (dots .entry)) (now (rects .entry)) (now (marks .entry))) id rect
-        (world (removeState state r) (now (nodes .exit)) (now (dots .exit)) (now (rects .exit)) (now (marks .exit))) (removeReply r) ⌝ }
+        (world (yesNoState state r) (now (nodes .exit)) (now (dots .exit)) (now (rects .exit)) (now (marks .exit))) (yesNoReply r) ⌝ }
 {
     let refusal = check(state, nodes, dots, rects, marks);
     if refusal != 0 {
-        return RemoveAnswer::Refused(refusal);
+        return YesNoAnswer::Refused(refusal);
     }
     remove_dot(state, nodes, dots, rects, id, rect)
 }

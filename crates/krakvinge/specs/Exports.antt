@@ -1,14 +1,11 @@
 -- What each exported call leaves in the rows that it is lent, by the model's statement of the call (§18).
 --     Lent         the rows: state, nodes, dots, rectangles, marks, answer
---     resultOf     what is returned: 0 or the refusal, 8 with 256 times the number wanted added
---     stateRow, answerRow      the state row and the answer row after a reply; a refused call leaves them as they were
---     Out          an answer row and a result, by a reply
 --     Exported     THE PATTERN: refusal 1 where the host's own rows don't fit, else the call
---     Inserts, Removes, CleansUp, Queries, ListsAll, ListsLeaves, CountsDots, Reports, Batches, LaysPatch, Makes, Checks
+--     Inserts, Asks, Places, Removes, CleansUp, Queries, ListsAll, ListsLeaves, CountsDots, Reports, Batches, LaysPatch, Makes, Checks
 use mathlib.Core.Path.{_≡_}
-use mathlib.Core.List.{List, [], _∷_}
+use mathlib.Core.List.{List, []}
 use mathlib.Core.Bool.{Bool, true, false}
-use Prim.Native.Nat.{ℕ, _+_, _*_, _/_, _%_}
+use Prim.Native.Nat.{ℕ}
 use lib.IntN.{ℤ}
 use lib.ListN.{length}
 use Rattle.geometry.specs.declared.aabb.AABB.{AABB}
@@ -18,15 +15,19 @@ use Rattle.model.specs.declared.State.{State}
 use Rattle.model.specs.declared.patch.Patch.{Patch}
 use Rattle.model.specs.declared.Window.{Window}
 use Rattle.model.specs.Layout.{World, world}
+use Rattle.model.specs.declared.answers.Asked.{Asked}
 use Rattle.model.specs.declared.answers.Found.{Found}
-use Rattle.model.specs.Calls.{Reply, refused, tooMany, answered, refusal, yesNo}
+use Rattle.model.specs.Calls.{Reply}
 use Rattle.model.specs.Calls.{Insert, Remove, Cleanup, Query, All, Leaves, References, GridReport, Make, Batch}
 use Rattle.model.specs.Patch.{patchFits, LayPatch}
+use Rattle.model.specs.Tickets.{Ask, Place}
 use Rattle.model.specs.declared.answers.MakeAnswer.{MakeAnswer}
 use Rattle.model.specs.Answers.{makeReply, makeState}
 use Rattle.tree_check.specs.Checks.{Checked}
-use Rattle.krakvinge.specs.Rows.{settingsIn, stateIn, withState, rowsFit}
-use Rattle.krakvinge.specs.Records.{recordsIn, batchFits}
+use Rattle.host_rows.specs.Rows.{settingsIn, stateIn, rowsFit}
+use Rattle.host_rows.specs.Tickets.{ticketIn, ticketRow, ticketFits}
+use Rattle.host_rows.specs.Records.{recordsIn, batchFits}
+use Rattle.host_rows.specs.Answers.{resultOf, stateRow, number, yesOrNo, splitsTold, hitsOpened, wide, Out, madeRow}
 
 pub record Lent : Type 0 where
   pub state : List ℕ
@@ -41,41 +42,6 @@ lent state nodes dots rects marks answer = record { state = state; nodes = nodes
 
 abbrev pub worldOf : State → Lent → World
 worldOf s l = world s (l .nodes) (l .dots) (l .rects) (l .marks)
-
--- §18.3: the refusal's number, 8 with 256 times the number of answers added
-abbrev pub resultOf : {A : Type 0} → Reply A → ℕ
-resultOf {A} (refused k) = refusal {A = A} (refused k)
-resultOf {A} (tooMany n) = refusal {A = A} (tooMany n) + 256 * n
-resultOf {A} (answered a) = refusal (answered a)
-
-abbrev pub stateRow : {A : Type 0} → State → List ℕ → Reply A → List ℕ
-stateRow s row (refused k) = row
-stateRow s row (tooMany n) = row
-stateRow s row (answered a) = withState s row
-
-abbrev pub answerRow : {A : Type 0} → (A → List ℕ) → List ℕ → Reply A → List ℕ
-answerRow words row (refused k) = row
-answerRow words row (tooMany n) = row
-answerRow words row (answered a) = words a
-
--- an answer's two words
-abbrev pub number : ℕ → List ℕ
-number n = n ∷ 0 ∷ []
-
-abbrev pub yesOrNo : Bool → List ℕ
-yesOrNo yes? = yesNo yes? ∷ 0 ∷ []
-
-abbrev pub hitsOpened : Found → List ℕ
-hitsOpened l = l .hits ∷ l .opened ∷ []
-
--- §18.8: a number of 64 bits, the low word first
-abbrev pub wide : ℕ → List ℕ
-wide n = n % 4294967296 ∷ n / 4294967296 ∷ []
-
--- the answer row and what is returned, by the reply
-pub record Out {A : Type 0} (words : A → List ℕ) (reply : Reply A) (row row′ : List ℕ) (result : ℕ) : Type 0 where
-  pub answer : row′ ≡ answerRow words row reply
-  pub returned : result ≡ resultOf reply
 
 -- says: the call, from the world and its row of answers before to those after, with its reply
 pub record Exported {B A : Type 0} (fits : Bool) (words : A → List ℕ) (says : World → List B → World → List B → Reply A → Type 0)
@@ -101,6 +67,17 @@ abbrev pub CleansUp : Lent → Lent → ℕ → Type 0
 CleansUp l l′ result =
     Exported (rowsFit (l .state) (l .answer)) yesOrNo (λ (w : World) (row : List ℕ) (w′ : World) (row′ : List ℕ)
     (reply : Reply Bool). Cleanup w w′ reply) l [] l′ [] result
+
+-- the row is the ticket's
+abbrev pub Asks : Dot → Lent → List ℕ → Lent → List ℕ → ℕ → Type 0
+Asks dot l row l′ row′ result =
+    Exported (ticketFits (l .state) (l .answer) row) splitsTold (λ (w : World) (ticket : List ℕ) (w′ : World) (ticket′ : List ℕ)
+    (reply : Reply Asked). Ask w dot w′ reply × (ticket′ ≡ ticketRow reply ticket)) l row l′ row′ result
+
+abbrev pub Places : List ℕ → Lent → Lent → ℕ → Type 0
+Places ticket l l′ result =
+    Exported (ticketFits (l .state) (l .answer) ticket) number (λ (w : World) (row : List ℕ) (w′ : World) (row′ : List ℕ)
+    (reply : Reply ℕ). Place w (ticketIn ticket) w′ reply) l [] l′ [] result
 
 abbrev pub CountsDots : Lent → Lent → ℕ → Type 0
 CountsDots l l′ result =
@@ -140,16 +117,13 @@ pub record LaysPatch (p : Patch) (l l′ : Lent) (result : ℕ) : Type 0 where
 
 -- ---- make, which has no answer row, and the check alone
 
-abbrev pub madeRow : MakeAnswer → List ℕ → List ℕ
-madeRow m row = stateRow (makeState (stateIn row) m) row (makeReply m)
-
 pub record Makes (row nodes dots : List ℕ) (rects : List ℤ) (marks row′ nodes′ dots′ : List ℕ) (rects′ : List ℤ) (marks′ : List ℕ) (result : ℕ) : Type 0 where
-  pub otherLength : (length row ≡ 10 → ⊥) → (result ≡ 1) × (row′ ≡ row) × (nodes′ ≡ nodes) × (dots′ ≡ dots) × (rects′ ≡ rects) × (marks′ ≡ marks)
-  pub carriedOut : length row ≡ 10
+  pub otherLength : (length row ≡ 12 → ⊥) → (result ≡ 1) × (row′ ≡ row) × (nodes′ ≡ nodes) × (dots′ ≡ dots) × (rects′ ≡ rects) × (marks′ ≡ marks)
+  pub carriedOut : length row ≡ 12
       → (m : MakeAnswer) × ((before : State) → Make (world before nodes dots rects marks) (settingsIn row)
       (world (makeState before m) nodes′ dots′ rects′ marks′) (makeReply m))
       × (result ≡ resultOf (makeReply m)) × (row′ ≡ madeRow m row)
 
 pub record Checks (row nodes dots : List ℕ) (rects : List ℤ) (marks marks′ : List ℕ) (result : ℕ) : Type 0 where
-  pub otherLength : (length row ≡ 10 → ⊥) → (result ≡ 1) × (marks′ ≡ marks)
-  pub carriedOut : length row ≡ 10 → Checked (stateIn row) nodes dots rects marks marks′ result
+  pub otherLength : (length row ≡ 12 → ⊥) → (result ≡ 1) × (marks′ ≡ marks)
+  pub carriedOut : length row ≡ 12 → Checked (stateIn row) nodes dots rects marks marks′ result

@@ -1,12 +1,6 @@
 // The calls that leave the tree as it is: query, all, leaves, references, the grid report, and the check alone.
-ghost use Rattle.krakvinge.specs.Rows.{rectOf, gridOf};
+ghost use Rattle.host_rows.specs.Rows.{rectOf, gridOf};
 ghost use Rattle.krakvinge.specs.Exports.{lent, Queries, ListsAll, ListsLeaves, CountsDots, Reports, Checks};
-use crate::answers::grid_out;
-use crate::answers::leaves_out;
-use crate::answers::query_out;
-use crate::answers::references_out;
-use crate::rows::rows_fit;
-use crate::rows::state_in;
 use calls::leaves::leaves;
 use calls::query::all;
 use calls::query::query;
@@ -14,6 +8,12 @@ use calls::references::references;
 use calls::report::grid_report;
 use geometry::aabb::AABB;
 use grid::grid::Grid;
+use host_rows::answers::grid_out;
+use host_rows::answers::leaves_out;
+use host_rows::answers::query_out;
+use host_rows::answers::references_out;
+use host_rows::rows::rows_fit;
+use host_rows::rows::state_in;
 use model::Window;
 use tree_check::check::check;
 
@@ -134,7 +134,7 @@ pub extern "C" fn krakvinge_check(
 ) -> u64
     ensures { λ r. ⌜ Checks (now (state .entry)) (now (nodes .entry)) (now (dots .entry)) (now (rects .entry)) (now (marks .entry)) (now (marks .exit)) r ⌝ }
 {
-    if state.len() != 10 {
+    if state.len() != 12 {
         return 1;
     }
     let before = state_in(state);

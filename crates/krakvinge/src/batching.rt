@@ -1,52 +1,19 @@
 // The batch on rows of words. A record is seven words: kind, id, x1, y1, x2, y2, ink; a negative number has 4294967296 added.
 ghost use mathlib.Core.Path.{_≡_};
 ghost use mathlib.Core.List.{[]};
-ghost use Prim.Native.Nat.{_+_, _*_, _<_};
-ghost use lib.ListN.{length};
 ghost use Rattle.model.specs.Layout.{world};
 ghost use Rattle.model.specs.Calls.{Batch};
 ghost use Rattle.batch.specs.Answers.{batchReply, carriedOutBy};
-ghost use Rattle.krakvinge.specs.Records.{recordIn, recordsIn, batchFits};
+ghost use Rattle.host_rows.specs.Records.{recordsIn};
 ghost use Rattle.krakvinge.specs.Exports.{lent, Batches};
-use crate::rows::signed;
-use crate::rows::state_in;
-use crate::rows::state_out;
 use batch_step::Batched;
 use batch_step::begin;
 use batch_step::one;
-use geometry::aabb::AABB;
-use model::Dot;
-use model::Record;
+use host_rows::records::batch_fits;
+use host_rows::records::record_in;
+use host_rows::rows::state_in;
+use host_rows::rows::state_out;
 use model::State;
-
-// The record of place i.
-fn record_in(records: &[u32], i: usize) -> Record
-    requires { ⌜ 7 * i + 6 < length (now records) ⌝ }
-    ensures { λ r. ⌜ r ≡ recordIn (now (records .entry)) i ⌝ }
-{
-    let at = 7 * i;
-    let x1 = signed(records[at + 2]);
-    let y1 = signed(records[at + 3]);
-    let x2 = signed(records[at + 4]);
-    let y2 = signed(records[at + 5]);
-    let rect = AABB { x1, y1, x2, y2 };
-    let id = records[at + 1];
-    Record {
-        kind: records[at],
-        dot: Dot {
-            id,
-            rect,
-            ink: records[at + 6],
-        },
-    }
-}
-
-// Whether the state row has ten words, and the records' row seven for each.
-fn batch_fits(state: &[u32], records: &[u32]) -> bool
-    ensures { λ r. ⌜ r ≡ batchFits (now (state .entry)) (now (records .entry)) ⌝ }
-{
-    (state.len() == 10) & (records.len() % 7 == 0)
-}
 
 // The check once, then every record.
 fn carry_out_all(

@@ -1,21 +1,20 @@
 // The calls that change the tree: make, insert, remove, cleanup.
-ghost use Rattle.krakvinge.specs.Rows.{rectOf};
+ghost use Rattle.host_rows.specs.Rows.{rectOf};
 ghost use Rattle.krakvinge.specs.Exports.{lent, Makes, Inserts, Removes, CleansUp};
-use crate::answers::cleanup_out;
-use crate::answers::insert_out;
-use crate::answers::make_out;
-use crate::answers::remove_out;
-use crate::rows::rows_fit;
-use crate::rows::settings_in;
-use crate::rows::state_in;
 use calls::cleanup::cleanup;
 use calls::insert::insert;
 use calls::make::make;
 use calls::remove::remove;
 use geometry::aabb::AABB;
+use host_rows::answers::insert_out;
+use host_rows::answers::make_out;
+use host_rows::answers::yes_no_out;
+use host_rows::rows::rows_fit;
+use host_rows::rows::settings_in;
+use host_rows::rows::state_in;
 use model::Dot;
 
-// Makes the rows a fresh tree with the settings of the state row, and writes its free heads and live number there.
+// Makes the rows a fresh tree with the settings of the state row, and writes its free heads, live number and count of changes there.
 #[no_mangle]
 pub extern "C" fn krakvinge_make(
     state: &mut [u32],
@@ -27,7 +26,7 @@ pub extern "C" fn krakvinge_make(
     ensures { λ r. ⌜ Makes (now (state .entry)) (now (nodes .entry)) (now (dots .entry)) (now (rects .entry)) (now (marks .entry)) (now (state .exit))
         (now (nodes .exit)) (now (dots .exit)) (now (rects .exit)) (now (marks .exit)) r ⌝ }
 {
-    if state.len() != 10 {
+    if state.len() != 12 {
         return 1;
     }
     let settings = settings_in(state);
@@ -89,7 +88,7 @@ pub extern "C" fn krakvinge_remove(
     let before = state_in(state);
     let rect = AABB { x1, y1, x2, y2 };
     let done = remove(before, nodes, dots, rects, marks, id, rect);
-    remove_out(state, answer, done)
+    yes_no_out(state, answer, done)
 }
 
 // Branches with five empty children become empty leaves, one level a call; the answer is 1 for yes, 0 for no.
@@ -111,5 +110,5 @@ pub extern "C" fn krakvinge_cleanup(
     }
     let before = state_in(state);
     let done = cleanup(before, nodes, dots, rects, marks);
-    cleanup_out(state, answer, done)
+    yes_no_out(state, answer, done)
 }

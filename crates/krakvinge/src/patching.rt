@@ -1,10 +1,10 @@
 // The patch on numbers and lent rows.
-ghost use Rattle.krakvinge.specs.Rows.{patchOf};
+ghost use Rattle.host_rows.specs.Rows.{patchOf};
 ghost use Rattle.krakvinge.specs.Exports.{lent, LaysPatch};
-use crate::answers::patch_out;
-use crate::rows::rows_fit;
-use crate::rows::state_in;
 use calls::patch::patch;
+use host_rows::answers::patch_out;
+use host_rows::rows::rows_fit;
+use host_rows::rows::state_in;
 use model::patch::Patch;
 
 // One-unit dots of ink 0 where the threshold is below the tint, in columns times rows of tiles; the answer is the number of dots.

@@ -88,6 +88,7 @@ fn fresh_state(settings: Settings, groups: usize, places: usize) -> State
         free_group,
         free_place,
         live: 0,
+        changes: 0,
     }
 }
 

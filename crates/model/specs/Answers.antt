@@ -6,10 +6,11 @@ use Rattle.model.specs.declared.answers.MakeAnswer.{MakeAnswer}
 use Rattle.model.specs.declared.answers.MakeAnswer.the-variants as make
 use Rattle.model.specs.declared.answers.InsertAnswer.{InsertAnswer}
 use Rattle.model.specs.declared.answers.InsertAnswer.the-variants as insert
-use Rattle.model.specs.declared.answers.RemoveAnswer.{RemoveAnswer}
-use Rattle.model.specs.declared.answers.RemoveAnswer.the-variants as remove
-use Rattle.model.specs.declared.answers.CleanupAnswer.{CleanupAnswer}
-use Rattle.model.specs.declared.answers.CleanupAnswer.the-variants as cleanup
+use Rattle.model.specs.declared.answers.YesNoAnswer.{YesNoAnswer}
+use Rattle.model.specs.declared.answers.YesNoAnswer.the-variants as said
+use Rattle.model.specs.declared.answers.Asked.{Asked}
+use Rattle.model.specs.declared.answers.AskAnswer.{AskAnswer}
+use Rattle.model.specs.declared.answers.AskAnswer.the-variants as ask
 use Rattle.model.specs.declared.answers.Found.{Found}
 use Rattle.model.specs.declared.answers.QueryAnswer.{QueryAnswer}
 use Rattle.model.specs.declared.answers.QueryAnswer.the-variants as query
@@ -32,7 +33,7 @@ abbrev pub makeState : State → MakeAnswer → State
 makeState s (make.Refused k) = s
 makeState s (make.Made s′) = s′
 
--- insert: the number of splits
+-- insert and place: the number of splits
 abbrev pub insertReply : InsertAnswer → Reply ℕ
 insertReply (insert.Refused k) = refused k
 insertReply (insert.Splits n s) = answered n
@@ -41,25 +42,21 @@ abbrev pub insertState : State → InsertAnswer → State
 insertState s (insert.Refused k) = s
 insertState s (insert.Splits n s′) = s′
 
--- remove: yes or no
-abbrev pub removeReply : RemoveAnswer → Reply Bool
-removeReply (remove.Refused k) = refused k
-removeReply (remove.Yes s) = answered true
-removeReply remove.No = answered false
+-- remove and cleanup: yes or no
+abbrev pub yesNoReply : YesNoAnswer → Reply Bool
+yesNoReply (said.Refused k) = refused k
+yesNoReply (said.Yes s) = answered true
+yesNoReply said.No = answered false
 
-abbrev pub removeState : State → RemoveAnswer → State
-removeState s (remove.Refused k) = s
-removeState s (remove.Yes s′) = s′
-removeState s remove.No = s
+abbrev pub yesNoState : State → YesNoAnswer → State
+yesNoState s (said.Refused k) = s
+yesNoState s (said.Yes s′) = s′
+yesNoState s said.No = s
 
--- cleanup: yes or no
-abbrev pub cleanupReply : CleanupAnswer → Reply Bool
-cleanupReply (cleanup.Refused k) = refused k
-cleanupReply (cleanup.Done yes? s) = answered yes?
-
-abbrev pub cleanupState : State → CleanupAnswer → State
-cleanupState s (cleanup.Refused k) = s
-cleanupState s (cleanup.Done yes? s′) = s′
+-- ask: the splits needed, and the ticket
+abbrev pub askReply : AskAnswer → Reply Asked
+askReply (ask.Refused k) = refused k
+askReply (ask.Told asked) = answered asked
 
 -- query and all: the hits, whose ids the row begins with, and the nodes opened
 abbrev pub queryReply : QueryAnswer → Reply Found

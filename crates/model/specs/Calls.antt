@@ -3,19 +3,21 @@
 --     Verdict      what a call does once the memory is a tree: refuse, or leave a shape, words in the row and an answer
 --     Exit         what a call leaves: the world, the row, the reply
 --     Obeys        THE PATTERN: for every world, what a call that follows a rule leaves
+--     counted      refusal 16, said once for every call that changes the tree
 --     Make, Insert, Remove, Cleanup, Query, Leaves, All, References, GridReport, Batch
 use mathlib.Core.Path.{_≡_}
 use mathlib.Core.List.{List, [], _∷_, _++_}
 use mathlib.Core.Bool.{Bool, true, false, not, cond, _&&_, _||_}
 use Prim.Native.Nat.{ℕ, _+_, _*_}
 use lib.IntN.{ℤ}
-use lib.Dec.{eqb, ltb}
+use lib.Dec.{eqb, ltb, leb}
 use lib.ListN.{length, drop}
 use Rattle.geometry.specs.declared.aabb.AABB.{AABB}
 use Rattle.geometry.specs.declared.settings.Settings.{Settings}
 use Rattle.model.specs.declared.Dot.{Dot}
 use Rattle.model.specs.declared.Window.{Window}
 use Rattle.model.specs.declared.Record.{Record}
+use Rattle.model.specs.declared.State.{State}
 use Rattle.model.specs.declared.answers.Found.{Found}
 use Rattle.geometry.specs.Rectangles.{inverted, farOut}
 use Rattle.geometry.specs.Settings.{rootOf, inRange, contains, rootRect}
@@ -73,9 +75,23 @@ module _ {B A : Type 0} where
 
 -- ---- the rules
 
+-- §21.1: the count is a u64
+unfoldable pub largestCount : ℕ
+largestCount = 18446744073709551615
+
+-- §21.2: 16, last of all, where the call would raise the count past the largest
+abbrev pub counted : {B A : Type 0} → Verdict B A → Verdict B A
+counted (refuse k) = refuse k
+counted (overflow n) = overflow n
+counted (accept x row a) = cond (ltb largestCount (x .changes)) (refuse 16) (accept x row a)
+
+-- whether so many changes more can be counted
+unfoldable pub canCount : State → ℕ → Bool
+canCount s number = leb (s .changes + number) largestCount
+
 -- §11.4: refusals 4, 10, 5, 6, 7, else §5
-unfoldable pub insertRule : Dot → Shape → Verdict ℕ ℕ
-insertRule dot x =
+unfoldable pub insertVerdict : Dot → Shape → Verdict ℕ ℕ
+insertVerdict dot x =
     let r = dot .rect in
     cond (inverted r || farOut r) (refuse 4)
     (cond (not (goodInk dot)) (refuse 10)
@@ -84,15 +100,23 @@ insertRule dot x =
     (cond (ltb (length (x .freeGroups)) (splitsNeeded dot x)) (refuse 7)
     (accept (inserted dot x) [] (splitsMade dot x))))))
 
--- §6.3, §11.6: yes, or no and the tree as it was
+-- §11.4: last of all 16
+unfoldable pub insertRule : Dot → Shape → Verdict ℕ ℕ
+insertRule dot x = counted (insertVerdict dot x)
+
+-- §11.6: yes, which is a change, and refused 16 where it cannot be counted; or no, and the tree as it was
+abbrev pub yesOrNo : Bool → Shape → Shape → Verdict ℕ Bool
+yesOrNo yes? other x = cond yes? (counted (accept other [] true)) (accept x [] false)
+
+-- §6.3
 unfoldable pub removeRule : ℕ → AABB → Shape → Verdict ℕ Bool
-removeRule id r x = cond (foundBy id r x) (accept (removed id r x) [] true) (accept x [] false)
+removeRule id r x = yesOrNo (foundBy id r x) (removed id r x) x
 
--- §7, §11.6: on a tree it is never refused
+-- §7.5
 unfoldable pub cleanupRule : Shape → Verdict ℕ Bool
-cleanupRule x = accept (cleaned x) [] (cleans x)
+cleanupRule x = yesOrNo (cleans x) (cleaned x) x
 
--- §9.3, §11.6: nor is this
+-- §9.3, §11.6: on a tree it is never refused
 unfoldable pub referencesRule : Shape → Verdict ℕ ℕ
 referencesRule x = accept x [] (references x)
 

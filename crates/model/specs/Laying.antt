@@ -1,5 +1,5 @@
 -- Dots laid one after another (§20.3, §20.5): each counts as an insert.
---     layAll           the single insert's rule, folded over a list of dots; it stops at the first dot that is refused
+--     layAll           the single insert, folded over a list of dots; it stops at the first dot that is refused
 --     laid             the shape after them, were none refused
 --     overfullCells    how many cells hold more rectangles than the leaf limit, and may split
 --     splitsFor        the splits that a list of rectangles makes below a node, whatever their order
@@ -22,7 +22,7 @@ use Rattle.model.specs.Lists.{filter, All}
 use Rattle.model.specs.Dots.{acceptableDot}
 use Rattle.model.specs.Trees.{Placed, Tree, leaf, branch, size}
 use Rattle.model.specs.Shapes.{Shape, root, inserted}
-use Rattle.model.specs.Calls.{Verdict, refuse, overflow, accept, insertRule}
+use Rattle.model.specs.Calls.{Verdict, refuse, overflow, accept, insertVerdict}
 
 -- ---- the fold
 
@@ -38,10 +38,10 @@ afterInsert (refuse k) others = refuse k
 afterInsert (overflow n) others = overflow n
 afterInsert (accept x row splits) others = oneMore (others x)
 
--- each dot in its turn; the answer is how many were laid
+-- each dot in its turn, whatever the count of changes; the answer is how many were laid
 abbrev pub layAll : List Dot → Shape → Verdict ℕ ℕ
 layAll [] x = accept x [] 0
-layAll (d ∷ ds) x = afterInsert (insertRule d x) (layAll ds)
+layAll (d ∷ ds) x = afterInsert (insertVerdict d x) (layAll ds)
 
 abbrev pub laid : List Dot → Shape → Shape
 laid [] x = x

@@ -29,9 +29,15 @@ pub record World : Type 0 where
 abbrev pub world : State → List ℕ → List ℕ → List ℤ → List ℕ → World
 world s nodes dots rects marks = record { state = s; nodes = nodes; dots = dots; rects = rects; marks = marks }
 
--- a state with other free heads and another live number
+-- a state with other free heads and another live number, and one change more
 abbrev pub changedState : State → ℕ → ℕ → ℕ → State
-changedState s freeGroup freePlace live = record { settings = s .settings; «free_group» = freeGroup; «free_place» = freePlace; live = live }
+changedState s freeGroup freePlace live =
+    record { settings = s .settings; «free_group» = freeGroup; «free_place» = freePlace; live = live; changes = s .changes + 1 }
+
+-- the state t, with the settings of s
+abbrev pub sameSettings : State → State → State
+sameSettings s t =
+    record { settings = s .settings; «free_group» = t .«free_group»; «free_place» = t .«free_place»; live = t .live; changes = t .changes }
 
 -- ---- lengths
 
@@ -153,7 +159,7 @@ placeRect (e ∷ es) k = cond (eqb k (e .place)) (rectWords (e .dot .rect)) (pla
 
 -- ---- the whole
 
--- §2.3; §2.12: live is the number of dots in the tree
+-- §2.3; §2.12: live is the number of dots in the tree; every count of changes will do
 unfoldable pub stateOf : Shape → State
 stateOf x =
     record {
@@ -161,6 +167,7 @@ stateOf x =
       «free_group» = firstNode (x .freeGroups);
       «free_place» = firstDot (map blank (x .freePlaces));
       live = size (x .tree);
+      changes = x .changes;
     }
 
 -- §2.1: every word, in the order of the numbers of nodes and places

@@ -84,3 +84,4 @@ pub record Represented (w : World) (x : Shape) : Type 0 where
   pub places : Chained (memory w) (w .state .«free_place») (map blank (x .freePlaces)) none
   pub settings : w .state .settings ≡ x .settings
   pub live : w .state .live ≡ size (x .tree)
+  pub changes : w .state .changes ≡ x .changes

@@ -16,7 +16,7 @@ use Rattle.model.specs.declared.patch.Patch.{Patch}
 use Rattle.model.specs.Lists.{joinBelow}
 use Rattle.model.specs.Shapes.{Shape}
 use Rattle.model.specs.Layout.{World}
-use Rattle.model.specs.Calls.{Reply, refused, Verdict, refuse, overflow, accept, exit, Obeys}
+use Rattle.model.specs.Calls.{Reply, refused, Verdict, refuse, overflow, accept, exit, Obeys, counted}
 use Rattle.model.specs.Thresholds.{thresholdAt}
 use Rattle.model.specs.Laying.{layAll, CanLay}
 
@@ -62,8 +62,12 @@ wholeOrNone (refuse k) = refuse 14
 wholeOrNone (overflow n) = refuse 14
 wholeOrNone (accept x row number) = accept x row number
 
+unfoldable pub patchVerdict : Patch → Shape → Verdict ℕ ℕ
+patchVerdict p x = let ds = patchDots p in cond (idsFit ds) (wholeOrNone (layAll ds x)) (refuse 14)
+
+-- §21.2: 16 where the count alone is in the way
 unfoldable pub patchRule : Patch → Shape → Verdict ℕ ℕ
-patchRule p x = let ds = patchDots p in cond (idsFit ds) (wholeOrNone (layAll ds x)) (refuse 14)
+patchRule p x = counted (patchVerdict p x)
 
 -- what a patch needs, so that it is not refused 14 (`patch-goes`, `patch-cases` of Laws.Patch)
 pub record PatchGoes (p : Patch) (x : Shape) : Type 0 where

@@ -1,7 +1,8 @@
 -- The abstract state: everything that a lent memory which is a tree says, and nothing else (§2.11, §2.12).
---     Shape        settings, G, N, the tree with its addresses, the free groups and the free places in the order of their lists
+--     Shape        settings, G, N, the tree with its addresses, the free groups and the free places in the order of their lists, the count of changes
 --     Valid        the rules of §2.12 that speak of the tree
 --     fresh        the shape that an accepted make leaves
+--     reshaped     one change more, which every call that changes the tree makes
 --     inserted, removed, cleaned   the shapes that the calls leave; splitsMade, foundBy, cleans: what they answer
 --     splitsNeeded the splits that refusal 7 asks about
 --     listed, opensFor, leaves, references     what the reading calls answer
@@ -34,6 +35,7 @@ pub record Shape : Type 0 where
   pub tree : Tree
   pub freeGroups : List ℕ
   pub freePlaces : List ℕ
+  pub changes : ℕ
 
 -- 1 below n, else 0
 unfoldable pub below : ℕ → ℕ → ℕ
@@ -59,15 +61,23 @@ pub record Valid (x : Shape) : Type 0 where
   pub placesOnce : (k : ℕ) → placeCount k (x .tree) + count k (x .freePlaces) ≡ below k (x .places)
   pub wellFormed : WellFormed (x .settings) (rootData (x .settings)) (x .tree)
 
--- §2.11: an empty leaf; the free lists in rising order
+-- §2.11, §21.1: an empty leaf; the free lists in rising order; no change yet
 unfoldable pub fresh : Settings → ℕ → ℕ → Shape
 fresh s groups places =
-    record { settings = s; groups = groups; places = places; tree = leaf []; freeGroups = upTo groups; freePlaces = upTo places }
+    record { settings = s; groups = groups; places = places; tree = leaf []; freeGroups = upTo groups; freePlaces = upTo places; changes = 0 }
 
--- the same room, with another tree and other free lists
+-- §21.1: a change. The same room, with another tree and other free lists; the count rises by 1.
 abbrev pub reshaped : Shape → Tree → List ℕ → List ℕ → Shape
 reshaped x t freeGroups freePlaces =
-    record { settings = x .settings; groups = x .groups; places = x .places; tree = t; freeGroups = freeGroups; freePlaces = freePlaces }
+    record {
+      settings = x .settings;
+      groups = x .groups;
+      places = x .places;
+      tree = t;
+      freeGroups = freeGroups;
+      freePlaces = freePlaces;
+      changes = x .changes + 1;
+    }
 
 abbrev pub root : Shape → NodeData
 root x = rootData (x .settings)
@@ -106,7 +116,7 @@ foundBy id r x = removeSays id r (root x) (x .tree)
 unfoldable pub removed : ℕ → AABB → Shape → Shape
 removed id r x = reshaped x (removeAt id r (root x) (x .tree)) (x .freeGroups) (removePlace id r (root x) (x .tree) ∷ x .freePlaces)
 
--- Cleanup (§7): yes or no, and the shape after it
+-- Cleanup (§7): yes or no, and the shape after a yes
 unfoldable pub cleans : Shape → Bool
 cleans x = not (isZero (turned (x .tree)))
 

@@ -20,9 +20,12 @@ use Rattle.geometry.specs.Cells.{routeCell, mayDivide, rootCell, rootData, chil
 use Rattle.model.specs.Shapes.{Shape, fresh, inserted, splitsMade, splitsNeeded, removed, foundBy, cleaned, cleans}
 use Rattle.model.specs.Shapes.{listed, opensFor, leaves as leafRow, leafNumber, references as dotCount}
 use Rattle.model.specs.Layout.{none, branchMark, layout}
+use Rattle.model.specs.declared.Dot.{Dot}
+use Rattle.model.specs.declared.answers.Asked.{Asked}
 use Rattle.model.specs.declared.answers.Found.{Found}
-use Rattle.model.specs.Calls.{Verdict, refuse, overflow, accept, recorded, refusedWord, yesNo, insertRule}
+use Rattle.model.specs.Calls.{Verdict, refuse, overflow, accept, recorded, refusedWord, yesNo, largestCount, insertVerdict, insertRule}
 use Rattle.model.specs.Calls.{removeRule, cleanupRule, queryRule, allRule, leavesRule, referencesRule}
+use Rattle.model.specs.Tickets.{askRule, placeRule}
 use Rattle.arithmetic.specs.Ints.{maxZ, minZ}
 use Rattle.arithmetic.specs.Bits.{bitAt}
 
@@ -69,6 +72,14 @@ pub data Line : Type 0 where
   words : List ℕ → List ℕ → Line
   -- the free groups at this point, the head first
   freeGroups : List ℕ → Line
+  -- an id and a rectangle; the splits or the refusal, and the count that the ticket has
+  ask : ℕ → AABB → ℕ → ℕ → Line
+  -- by a ticket for this id and rectangle, with this count
+  placeBy : ℕ → AABB → ℕ → ℕ → Line
+  -- the count of changes at this point
+  changes : ℕ → Line
+  -- from here on the count of changes is this, as if so many had been made
+  recounted : ℕ → Line
 
 -- of ink 0; of all inks
 abbrev insert : ℕ → AABB → ℕ → Line
@@ -121,6 +132,27 @@ opensJust (refuse k) n = false
 opensJust (overflow m) n = false
 opensJust (accept x row a) n = eqb (a .opened) n
 
+abbrev tells : Verdict ℕ Asked → ℕ → ℕ → Bool
+tells (refuse k) word count = eqb (refusedWord k) word
+tells (overflow n) word count = false
+tells (accept x row a) word count = eqb (a .splits) word && eqb (a .ticket .changes) count
+
+abbrev withCount : ℕ → Shape → Shape
+withCount count x =
+    record {
+      settings = x .settings;
+      groups = x .groups;
+      places = x .places;
+      tree = x .tree;
+      freeGroups = x .freeGroups;
+      freePlaces = x .freePlaces;
+      changes = count;
+    }
+
+-- of ink 0
+abbrev plain : ℕ → AABB → Dot
+plain id r = record { id = id; rect = r; ink = 0 }
+
 abbrev passLines : Shape → List Line → Bool
 passLines x [] = true
 passLines x (insertInk id r ink word ∷ ls) =
@@ -130,6 +162,11 @@ passLines x (cleanup word ∷ ls) = let v = recorded yesNo x (cleanupRule x) in 
 passLines x (all ids ∷ ls) = lists (allRule room x) ids && passLines x ls
 passLines x (words nodes dots ∷ ls) = sameList (layout x .nodes) nodes && sameList (layout x .dots) dots && passLines x ls
 passLines x (freeGroups gs ∷ ls) = sameList (x .freeGroups) gs && passLines x ls
+passLines x (ask id r word count ∷ ls) = tells (askRule (plain id r) x) word count && passLines x ls
+passLines x (placeBy id r count word ∷ ls) =
+    let v = recorded (λ n. n) x (placeRule (record { dot = plain id r; changes = count }) x) in eqb (v .word) word && passLines (v .shape) ls
+passLines x (changes count ∷ ls) = eqb (x .changes) count && passLines x ls
+passLines x (recounted count ∷ ls) = passLines (withCount count x) ls
 passLines x (queryInks q inks ids opened ∷ ls) =
     let v = queryRule (record { rect = q; inks = inks }) room x in lists v ids && opensJust v opened && passLines x ls
 passLines x (references n ∷ ls) = eqb (recorded (λ n. n) x (referencesRule x) .word) n && passLines x ls
@@ -195,7 +232,7 @@ table =
     ∷ []
 
 -- others: the lines of §13.7; the mistakes of §14.2 that `table` has not; the order of freed groups; every word after the three inserts of §13.7, with
--- G = 1; and inks
+-- G = 1; inks; the count of changes, asks and placings
 abbrev pub further : List Trial
 further =
     deepest 2
@@ -237,19 +274,43 @@ further =
     ∷ words (0 ∷ 1 ∷ freshGroup) (place 9 none 5 (free 2 (free 3 (free 4 (free 5 (free 6 (free 7 (free none [])))))))) ∷ remove 9 (rect 1 1 2 2) 1
     ∷ words freshNodes (free 1 (free 2 (free 3 (free 4 (free 5 (free 6 (free 7 (free none [])))))))) ∷ []
     )
+    -- an ask changes nothing; a placing makes the splits that were told, and then the ticket is stale; 15 comes before 4 to 7, and they are the insert's
+    ∷ calls 1 2 (
+    insert 1 (rect 1 1 2 2) 0 ∷ changes 1 ∷ ask 2 (rect 3 3 3 3) 2 1 ∷ changes 1 ∷ references 1 ∷ placeBy 2 (rect 3 3 3 3) 1 2 ∷ changes 2
+    ∷ placeBy 2 (rect 3 3 3 3) 1 (refusedWord 15) ∷ placeBy 3 (rect 2 2 1 1) 1 (refusedWord 15) ∷ placeBy 3 (rect 2 2 1 1) 2 (refusedWord 4)
+    ∷ ask 3 (rect 16 16 18 18) (refusedWord 5) 0 ∷ placeBy 3 (rect 16 16 18 18) 2 (refusedWord 5) ∷ changes 2 ∷ references 2 ∷ []
+    )
+    -- the count rises with each accepted insert, remove that says yes and cleanup that says yes, and with nothing else
+    ∷ calls 1 2 (
+    changes 0 ∷ insert 1 (rect 1 1 2 2) 0 ∷ changes 1 ∷ insert 2 (rect 3 3 3 3) 2 ∷ changes 2 ∷ insert 3 (rect 2 2 1 1) (refusedWord 4) ∷ changes 2
+    ∷ query (rect 0 0 16 16) (2 ∷ 1 ∷ []) 11 ∷ remove 1 (rect 9 1 10 2) 0 ∷ changes 2 ∷ remove 1 (rect 1 1 2 2) 1 ∷ changes 3 ∷ cleanup 0 ∷ changes 3
+    ∷ remove 2 (rect 3 3 3 3) 1 ∷ changes 4 ∷ cleanup 1 ∷ changes 5 ∷ cleanup 1 ∷ changes 6 ∷ cleanup 0 ∷ changes 6 ∷ []
+    )
+    -- refusal 16 at the largest count, after every other refusal; what says no is not refused
+    ∷ calls 1 1 (
+    insert 1 (rect 1 1 2 2) 0 ∷ recounted largestCount ∷ insert 2 (rect 2 2 1 1) (refusedWord 4) ∷ insertInk 2 (rect 1 1 2 2) 16 (refusedWord 10)
+    ∷ insert 2 (rect 16 16 18 18) (refusedWord 5) ∷ insert 2 (rect 3 3 3 3) (refusedWord 7) ∷ insert 2 (rect 9 9 10 10) (refusedWord 16)
+    ∷ ask 2 (rect 3 3 3 3) (refusedWord 7) 0 ∷ ask 2 (rect 9 9 10 10) (refusedWord 16) 0 ∷ placeBy 2 (rect 9 9 10 10) 1 (refusedWord 15)
+    ∷ placeBy 2 (rect 9 9 10 10) largestCount (refusedWord 16) ∷ remove 2 (rect 1 1 2 2) 0 ∷ remove 1 (rect 1 1 2 2) (refusedWord 16) ∷ cleanup 0
+    ∷ references 1 ∷ changes largestCount ∷ recounted 18446744073709551614 ∷ remove 1 (rect 1 1 2 2) 1 ∷ changes largestCount ∷ []
+    )
+    ∷ calls 1 1 (
+    insert 1 (rect 1 1 1 1) 0 ∷ insert 2 (rect 15 15 15 15) 1 ∷ remove 1 (rect 1 1 1 1) 1 ∷ remove 2 (rect 15 15 15 15) 1 ∷ recounted largestCount
+    ∷ cleanup (refusedWord 16) ∷ freeGroups [] ∷ recounted 0 ∷ cleanup 1 ∷ freeGroups (0 ∷ []) ∷ changes 1 ∷ []
+    )
     ∷ []
 
 pub all-pass : passAll table ≡ true
 unfolding flat intersects middle within inverted near farOut W bitsWithin bitLength halvings D contains rootRect
     rootCell rootData childCentre quarterCell childCell childData quadrant routeCell bothTests opens mayDivide
     fresh inserted splitsMade splitsNeeded removed foundBy cleaned cleans listed opensFor
-    insertRule removeRule cleanupRule queryRule allRule goodInk shows bitAt isHit matches indicator changed maxZ minZ
+    largestCount insertVerdict insertRule removeRule cleanupRule queryRule allRule goodInk shows bitAt isHit matches indicator changed maxZ minZ
 all-pass = refl
 
 pub further-pass : passAll further ≡ true
 unfolding flat intersects middle within inverted near farOut W bitsWithin bitLength halvings D contains rootRect
     rootCell rootData childCentre quarterCell childCell childData quadrant routeCell bothTests opens mayDivide
     fresh inserted splitsMade splitsNeeded removed foundBy cleaned cleans listed opensFor leafRow leafNumber dotCount
-    insertRule removeRule cleanupRule queryRule allRule leavesRule referencesRule goodInk shows bitAt isHit matches indicator changed
-    maxZ minZ layout none branchMark
+    largestCount insertVerdict insertRule removeRule cleanupRule queryRule allRule leavesRule referencesRule askRule placeRule
+    goodInk shows bitAt isHit matches indicator changed maxZ minZ layout none branchMark
 further-pass = refl

@@ -1,5 +1,6 @@
-// What the calls answer: one type a call, from the operation on the tree to the host. `Refused` has the refusal's number.
+// What the calls answer, in one type from the operation on the tree to the host. `Refused` has the refusal's number.
 use crate::State;
+use crate::Ticket;
 
 // The state of the fresh tree.
 pub enum MakeAnswer {
@@ -7,23 +8,28 @@ pub enum MakeAnswer {
     Made(State),
 }
 
-// The number of splits, and the state after them.
+// Of an insert and of a placing: the number of splits, and the state after them.
 pub enum InsertAnswer {
     Refused(u32),
     Splits(u32, State),
 }
 
-// Yes, with the state after it; or no, and nothing is changed.
-pub enum RemoveAnswer {
+// Of a remove and of a cleanup: yes, with the state after it; or no, and nothing is changed.
+pub enum YesNoAnswer {
     Refused(u32),
     Yes(State),
     No,
 }
 
-// Whether a branch was turned, and the state after it.
-pub enum CleanupAnswer {
+// What an ask tells: the splits that the insert would make, and the ticket for it.
+pub struct Asked {
+    pub splits: u32,
+    pub ticket: Ticket,
+}
+
+pub enum AskAnswer {
     Refused(u32),
-    Done(bool, State),
+    Told(Asked),
 }
 
 // What a query finds: how many dots it meets, and how many nodes it opens.

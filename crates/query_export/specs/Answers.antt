@@ -7,8 +7,8 @@ use Rattle.model.specs.declared.Window.{Window}
 use Rattle.model.specs.declared.answers.Found.{Found}
 use Rattle.model.specs.Calls.{Reply}
 use Rattle.tree_query.specs.Answers.{Queried}
-use Rattle.krakvinge.specs.Rows.{stateIn}
-use Rattle.krakvinge.specs.Exports.{hitsOpened, Out}
+use Rattle.host_rows.specs.Rows.{stateIn}
+use Rattle.host_rows.specs.Answers.{hitsOpened, Out}
 
 abbrev pub Lists : Window → List ℕ → List ℕ → List ℕ → List ℤ → List ℕ → List ℕ → List ℕ → List ℕ → ℕ → Type 0
 Lists q state nodes dots rects ids answer ids′ answer′ result =

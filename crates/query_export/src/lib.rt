@@ -2,11 +2,11 @@
 ghost use mathlib.Core.Path.{_≡_};
 ghost use lib.ListN.{length};
 ghost use Rattle.tree.specs.Operations.{IsTree};
-ghost use Rattle.krakvinge.specs.Rows.{stateIn, rectOf};
+ghost use Rattle.host_rows.specs.Rows.{stateIn, rectOf};
 ghost use Rattle.query_export.specs.Answers.{Lists};
 use geometry::aabb::AABB;
-use krakvinge::answers::query_out;
-use krakvinge::rows::state_in;
+use host_rows::answers::query_out;
+use host_rows::rows::state_in;
 use model::Window;
 use tree_query::query::query_row;
 
@@ -25,7 +25,7 @@ pub extern "C" fn krakvinge_query_unchecked(
     ids: &mut [u32],
     answer: &mut [u32],
 ) -> u64
-    requires { ⌜ (length (now state) ≡ 10) × (length (now answer) ≡ 2) × IsTree (stateIn (now state)) (now nodes) (now dots) (now rects) ⌝ }
+    requires { ⌜ (length (now state) ≡ 12) × (length (now answer) ≡ 2) × IsTree (stateIn (now state)) (now nodes) (now dots) (now rects) ⌝ }
     ensures { λ r. ⌜ Lists (record { rect = rectOf x1 y1 x2 y2; inks = inks }) (now (state .entry)) (now (nodes .entry)) (now (dots .entry))
         (now (rects .entry)) (now (ids .entry)) (now (answer .entry)) (now (ids .exit)) (now (answer .exit)) r ⌝ }
 {

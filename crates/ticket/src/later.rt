@@ -19,10 +19,9 @@ use lines::line::read_line;
 use model::Dot;
 use model::State;
 use model::Window;
-use model::answers::CleanupAnswer;
 use model::answers::InsertAnswer;
 use model::answers::QueryAnswer;
-use model::answers::RemoveAnswer;
+use model::answers::YesNoAnswer;
 
 // The state after a line, and where the answer's bytes end.
 pub struct Step {
@@ -74,15 +73,15 @@ fn answer_remove(
         (output (now (out .entry)) (now (out .exit)) (r .next)) ⌝ }
 {
     match remove(state, nodes, dots, rects, marks, id, rect) {
-        RemoveAnswer::Refused(number) => {
+        YesNoAnswer::Refused(number) => {
             let next = answer_one(out, b'E', number);
             Step { state, next }
         }
-        RemoveAnswer::Yes(after) => {
+        YesNoAnswer::Yes(after) => {
             let next = answer_two(out, b'D', id, 1);
             Step { state: after, next }
         }
-        RemoveAnswer::No => {
+        YesNoAnswer::No => {
             let next = answer_two(out, b'D', id, 0);
             Step { state, next }
         }
@@ -104,13 +103,17 @@ fn answer_cleanup(
         (output (now (out .entry)) (now (out .exit)) (r .next)) ⌝ }
 {
     match cleanup(state, nodes, dots, rects, marks) {
-        CleanupAnswer::Refused(number) => {
+        YesNoAnswer::Refused(number) => {
             let next = answer_one(out, b'E', number);
             Step { state, next }
         }
-        CleanupAnswer::Done(yes, after) => {
-            let next = answer_one(out, b'C', yes as u32);
+        YesNoAnswer::Yes(after) => {
+            let next = answer_one(out, b'C', 1);
             Step { state: after, next }
+        }
+        YesNoAnswer::No => {
+            let next = answer_one(out, b'C', 0);
+            Step { state, next }
         }
     }
 }

@@ -4,12 +4,14 @@ ghost use Prim.Native.Nat.{_+_};
 ghost use Rattle.memory.specs.Rows.{HasNode};
 ghost use Rattle.tree.specs.Operations.{HasTree};
 ghost use Rattle.tree_cleanup.specs.Answers.{CleanedUp};
+ghost use Rattle.tree_cleanup.specs.EmptyBranches.{emptyBranch, Searchable, Searched};
 ghost use Rattle.tree_cleanup.specs.Walks.{HasGroup, emptyGroup, turnedNodes, NodeToClean, NodeCleaned, GroupToClean, GroupCleaned};
+use memory::lengths::groups_in;
 use memory::node::Node;
 use memory::node::node_at;
 use memory::node::set_node;
 use model::State;
-use model::answers::CleanupAnswer;
+use model::answers::YesNoAnswer;
 
 // The head of the free groups, and how many branches were turned.
 pub struct Swept {
@@ -28,6 +30,35 @@ fn is_empty_group(nodes: &[u32], first: usize) -> bool
     let d = node_at(nodes, first + 3).count == 0;
     let e = node_at(nodes, first + 4).count == 0;
     (a & b) & (c & d) & e
+}
+
+// Whether a node is a branch whose five children are empty.
+fn is_empty_branch(nodes: &[u32], node: usize) -> bool
+    requires { ⌜ HasNode (now nodes) node × Searchable (now nodes) ⌝ }
+    ensures { λ r. ⌜ r ≡ emptyBranch (now (nodes .entry)) node ⌝ }
+{
+    let words = node_at(nodes, node);
+    if !words.is_branch() {
+        return false;
+    }
+    let first = words.first as usize;
+    is_empty_group(nodes, first)
+}
+
+// Whether the row has such a branch, in the tree: a node of a free group is no branch.
+fn has_empty_branch(nodes: &[u32]) -> bool
+    requires { ⌜ Searchable (now nodes) ⌝ }
+    ensures { λ r. ⌜ Searched (now (nodes .entry)) r ⌝ }
+{
+    let count = 1 + 5 * groups_in(nodes);
+    let mut node = 0;
+    while node < count {
+        if is_empty_branch(nodes, node) {
+            return true;
+        }
+        node += 1;
+    }
+    false
 }
 
 // Turns a branch into an empty leaf; its group heads the free groups.
@@ -79,11 +110,17 @@ fn clean_group(nodes: &mut [u32], swept: Swept, first: usize, levels: u32, left:
     clean_group(nodes, next, first, levels, left - 1)
 }
 
-// Cleans up the tree: whether a branch was turned, and the state after it.
-pub fn cleanup_tree(state: State, nodes: &mut [u32]) -> CleanupAnswer
+// Cleans up the tree: whether a branch was turned, and the state after it. Where no change more can be counted, nothing is stored.
+pub fn cleanup_tree(state: State, nodes: &mut [u32]) -> YesNoAnswer
     requires { ⌜ HasTree state (now nodes) ⌝ }
     ensures { λ r. ⌜ CleanedUp state (now (nodes .entry)) (now (nodes .exit)) r ⌝ }
 {
+    if !state.can_count(1) {
+        if has_empty_branch(nodes) {
+            return YesNoAnswer::Refused(16);
+        }
+        return YesNoAnswer::No;
+    }
     let settings = state.settings;
     let levels = settings.deepest();
     let start = Swept {
@@ -91,8 +128,9 @@ pub fn cleanup_tree(state: State, nodes: &mut [u32]) -> CleanupAnswer
         turned: 0,
     };
     let swept = clean_node(nodes, start, 0, levels);
-    CleanupAnswer::Done(
-        0 < swept.turned,
-        state.changed(swept.head, state.free_place, state.live),
-    )
+    if swept.turned == 0 {
+        return YesNoAnswer::No;
+    }
+    let next = state.changed(swept.head, state.free_place, state.live);
+    YesNoAnswer::Yes(next)
 }

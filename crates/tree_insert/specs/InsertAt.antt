@@ -11,6 +11,7 @@ use Rattle.model.specs.declared.Dot.{Dot}
 use Rattle.model.specs.Dots.{acceptableDot}
 use Rattle.model.specs.Shapes.{Shape, splitsNeeded}
 use Rattle.model.specs.Layout.{world, Holds}
+use Rattle.model.specs.Calls.{canCount}
 use Rattle.tree.specs.declared.find.Leaf.{Leaf}
 use Rattle.tree.specs.Routes.{LeadsTo}
 
@@ -21,6 +22,7 @@ pub record Starts (s : State) (dot : Dot) (nodes dots : List ℕ) (rects : List 
   pub room : 1 ≤ length (x .freePlaces)
   pub needed : splits ≡ splitsNeeded dot x
   pub enough : splits ≤ length (x .freeGroups)
+  pub counts : canCount s 1 ≡ true
 
 pub record CanInsert (s : State) (dot : Dot) (nodes dots : List ℕ) (rects : List ℤ) (l : Leaf) (splits : ℕ) : Type 0 where
   pub marks : List ℕ

@@ -8,7 +8,8 @@
 --     Leaf         the leaf that the dot routes to: its splits can be counted, and the insert begins there
 --     Push         the push of the dot
 --     InsertAt     the stores leave the inserted shape
---     Refusals     4 to 7, and the insert that is not refused
+--     Refusals     the refusals in their order, and the insert that is not refused
+--     Answers      what insert, ask and place leave, by the landing
 pub mod FreeGroups
 pub mod Bounds
 pub mod SplitsNeeded
@@ -19,3 +20,4 @@ pub mod Leaf
 pub mod Push
 pub mod InsertAt
 pub mod Refusals
+pub mod Answers

@@ -5,6 +5,7 @@
 --     SplitDown    the splits on the way down
 --     Push         the push of the dot
 --     InsertAt     the insert that is not refused
+--     Landing      where an insert ends, told before anything is stored
 -- Laws has the proofs.
 pub mod FreeGroups
 pub mod SplitsNeeded
@@ -13,4 +14,5 @@ pub mod LeafSplit
 pub mod SplitDown
 pub mod Push
 pub mod InsertAt
+pub mod Landing
 pub mod Laws

@@ -1,32 +1,33 @@
-// Insert without the check: the dot goes to the leaf that it routes to, which splits where it is full and may.
+// Insert, and place by ticket, without the check: the dot goes to the leaf that it routes to, which splits where it is full and may.
 ghost use mathlib.Core.Path.{_≡_};
 ghost use mathlib.Core.List.{List};
 ghost use Prim.Native.Nat.{ℕ, _+_};
 ghost use Rattle.model.specs.Shapes.{Shape, inserted};
 ghost use Rattle.model.specs.Layout.{world, Holds};
 ghost use Rattle.model.specs.Calls.{insertRule};
+ghost use Rattle.model.specs.Tickets.{placeRule};
 ghost use Rattle.model.specs.Answers.{insertState, insertReply};
 ghost use lib.ListN.{length, replicate};
 ghost use Rattle.tree.specs.Operations.{IsTree, CarriedOut};
 ghost use Rattle.tree_insert.specs.Push.{CanPush, pushedNodes, pushedDots, pushedRects};
 ghost use Rattle.tree_insert.specs.InsertAt.{Starts, CanInsert};
 
+pub mod ask;
+mod landing;
 pub mod needed;
 mod split;
 
-use crate::needed::Needed;
-use crate::needed::splits_needed;
+use crate::landing::Landing;
+use crate::landing::land;
 use crate::split::push_place;
 use crate::split::split_down;
-use memory::lengths::places_in;
-use memory::node::node_at;
 use memory::places::next_at;
 use memory::places::set_dot;
 use model::Dot;
 use model::State;
+use model::Ticket;
 use model::answers::InsertAnswer;
 use tree::find::Leaf;
-use tree::find::find_leaf;
 
 // Puts a dot at a place, and the place at the head of a leaf's chain.
 fn push_dot(
@@ -68,7 +69,7 @@ fn insert_at(
     state.changed(reached.group, next, state.live + 1)
 }
 
-// Inserts a dot: refusals 4, 10, 5, 6, 7 store nothing, and the answer is the number of splits.
+// Inserts a dot: a refusal stores nothing, and the answer is the number of splits.
 pub fn insert_dot(
     state: State,
     nodes: &mut [u32],
@@ -80,30 +81,30 @@ pub fn insert_dot(
     ensures { λ r. ⌜ CarriedOut (insertRule dot) state (now (nodes .entry)) (now (dots .entry)) (now (rects .entry)) (insertState state r)
         (now (nodes .exit)) (now (dots .exit)) (now (rects .exit)) (insertReply r) ⌝ }
 {
-    let settings = state.settings;
-    let rect = dot.rect;
-    if rect.is_inverted() | rect.is_far_out() {
-        return InsertAnswer::Refused(4);
+    match land(state, nodes, dots, rects, dot) {
+        Landing::Refused(refusal) => InsertAnswer::Refused(refusal),
+        Landing::At(leaf, splits) => InsertAnswer::Splits(
+            splits,
+            insert_at(state, nodes, dots, rects, dot, leaf, splits),
+        ),
     }
-    if !dot.has_good_ink() {
-        return InsertAnswer::Refused(10);
+}
+
+// Inserts the dot of a ticket (§21.4): refusal 15 comes before those of the insert.
+pub fn place_dot(
+    state: State,
+    nodes: &mut [u32],
+    dots: &mut [u32],
+    rects: &mut [i32],
+    ticket: Ticket,
+) -> InsertAnswer
+    requires { ⌜ IsTree state (now nodes) (now dots) (now rects) ⌝ }
+    ensures { λ r. ⌜ CarriedOut (placeRule ticket) state (now (nodes .entry)) (now (dots .entry)) (now (rects .entry)) (insertState state r)
+        (now (nodes .exit)) (now (dots .exit)) (now (rects .exit)) (insertReply r) ⌝ }
+{
+    if ticket.changes != state.changes {
+        return InsertAnswer::Refused(15);
     }
-    if !settings.root().contains(rect) {
-        return InsertAnswer::Refused(5);
-    }
-    // The live dots, with this one.
-    let live = state.live as usize + 1;
-    if places_in(dots) < live {
-        return InsertAnswer::Refused(6);
-    }
-    let leaf = find_leaf(settings, nodes, rect);
-    let chain = node_at(nodes, leaf.node);
-    let needed = splits_needed(state, nodes, dots, rects, chain, leaf.node_data, rect);
-    let Needed::Splits(splits) = needed else {
-        return InsertAnswer::Refused(7);
-    };
-    InsertAnswer::Splits(
-        splits,
-        insert_at(state, nodes, dots, rects, dot, leaf, splits),
-    )
+    let dot = ticket.dot;
+    insert_dot(state, nodes, dots, rects, dot)
 }

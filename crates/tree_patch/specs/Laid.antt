@@ -20,8 +20,9 @@ use Rattle.model.specs.declared.patch.Patch.{Patch}
 use Rattle.model.specs.Lists.{joinBelow}
 use Rattle.model.specs.Shapes.{Shape, Valid}
 use Rattle.model.specs.Layout.{world, Holds}
+use Rattle.model.specs.Calls.{largestCount}
 use Rattle.model.specs.Laying.{laid}
-use Rattle.model.specs.Patch.{patchFits, unitRect, hasDot, rectsAt, numbered, PatchGoes}
+use Rattle.model.specs.Patch.{patchFits, unitRect, hasDot, rectsAt, numbered, patchDots, PatchGoes}
 use Rattle.tree_patch.specs.declared.lay.Laid.{Laid}
 
 -- those of the rows above, and those to the left
@@ -53,11 +54,12 @@ pub record DotFits (p : Patch) (column row number : ℕ) : Type 0 where
 abbrev pub noneLaid : State → Laid
 noneLaid s = record { state = s; number = 0 }
 
--- from the shape x on, in which the patch can be laid
+-- from the shape x on, in which the patch can be laid and its dots counted
 pub record Progress (p : Patch) (column row : ℕ) (l : Laid) (nodes dots : List ℕ) (rects : List ℤ) (marks : List ℕ) (x : Shape) : Type 0 where
   pub fits : patchFits p ≡ true
   pub valid : Valid x
   pub goes : PatchGoes p x
+  pub counts : x .changes + length (patchDots p) ≤ largestCount
   pub holds : Holds (world (l .state) nodes dots rects marks) (laid (dotsBefore p column row) x)
   pub number : l .number ≡ length (rectsBefore p column row)
 

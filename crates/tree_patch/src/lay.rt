@@ -69,7 +69,7 @@ fn lay_dot(
     match insert_dot(state, nodes, dots, rects, dot) {
         InsertAnswer::Refused(_) => laid,
         InsertAnswer::Splits(_, next) => Laid {
-            state: state.changed(next.free_group, next.free_place, next.live),
+            state: state.followed_by(next),
             number: number + 1,
         },
     }

@@ -47,7 +47,7 @@ fn can_lay(state: State, nodes: &[u32], dots: &[u32], rects: &[i32], patch: Patc
     has_free(nodes, state.free_group, splits)
 }
 
-// Lays a patch whole, or refuses it as 14 and stores nothing; the answer is the number of dots.
+// Lays a patch whole, or refuses it as 14 or 16 and stores nothing; the answer is the number of dots.
 pub fn lay_patch(
     state: State,
     nodes: &mut [u32],
@@ -61,6 +61,9 @@ pub fn lay_patch(
 {
     if !can_lay(state, nodes, dots, rects, patch) {
         return PatchAnswer::Refused(14);
+    }
+    if !state.can_count(dots_number(patch) as u64) {
+        return PatchAnswer::Refused(16);
     }
     let laid = lay_rows(state, nodes, dots, rects, patch);
     let after = laid.state;

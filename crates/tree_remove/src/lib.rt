@@ -6,7 +6,7 @@ ghost use Rattle.model.specs.Dots.{zeroDot};
 ghost use Rattle.model.specs.Layout.{none};
 ghost use Rattle.model.specs.Trees.{Placed};
 ghost use Rattle.model.specs.Calls.{removeRule};
-ghost use Rattle.model.specs.Answers.{removeState, removeReply};
+ghost use Rattle.model.specs.Answers.{yesNoState, yesNoReply};
 ghost use Rattle.memory.specs.Rows.{HasNode, HasPlace, HasRect, setNodeAt, setNextAt, setDotAt, setRectAt};
 ghost use Rattle.tree.specs.Operations.{IsTree, CarriedOut};
 ghost use Rattle.tree_remove.specs.Search.{Searchable, hitIn, Linked, unlinkedNode, unlinkedDots};
@@ -20,7 +20,7 @@ use memory::places::set_dot;
 use memory::places::set_next;
 use model::Dot;
 use model::State;
-use model::answers::RemoveAnswer;
+use model::answers::YesNoAnswer;
 use tree::find::find_leaf;
 
 // Where a dot stands in its chain, and the place before it; no place is none.
@@ -102,20 +102,23 @@ pub fn remove_dot(
     rects: &mut [i32],
     id: u32,
     rect: AABB,
-) -> RemoveAnswer
+) -> YesNoAnswer
     requires { ⌜ IsTree state (now nodes) (now dots) (now rects) ⌝ }
-    ensures { λ r. ⌜ CarriedOut (removeRule id rect) state (now (nodes .entry)) (now (dots .entry)) (now (rects .entry)) (removeState state r)
-        (now (nodes .exit)) (now (dots .exit)) (now (rects .exit)) (removeReply r) ⌝ }
+    ensures { λ r. ⌜ CarriedOut (removeRule id rect) state (now (nodes .entry)) (now (dots .entry)) (now (rects .entry)) (yesNoState state r)
+        (now (nodes .exit)) (now (dots .exit)) (now (rects .exit)) (yesNoReply r) ⌝ }
 {
     let settings = state.settings;
     let node = find_leaf(settings, nodes, rect).node;
     let leaf = node_at(nodes, node);
     let hit = find_dot(dots, leaf, id);
     if hit.place == Node::NONE {
-        return RemoveAnswer::No;
+        return YesNoAnswer::No;
+    }
+    if !state.can_count(1) {
+        return YesNoAnswer::Refused(16);
     }
     let place = hit.place;
     unlink(nodes, dots, node, leaf, hit);
     free_place(dots, rects, place as usize, state.free_place);
-    RemoveAnswer::Yes(state.changed(state.free_group, place, state.live - 1))
+    YesNoAnswer::Yes(state.changed(state.free_group, place, state.live - 1))
 }

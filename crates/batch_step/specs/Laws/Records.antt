@@ -1,46 +1,66 @@
 -- From the single operations to the records of a batch.
---     insert-refused, insert-splits; remove-refused, remove-yes, remove-no; cleanup-refused, cleanup-said      a record by its operation's answer
+--     splits-small, splits-refused, splits-made; said-small, said-refused, said-yes, said-no       an answer as its record leaves it
+--     insert-done, remove-done, cleanup-done       a record by its operation's answer
+--     insert-word, remove-word, cleanup-word       the word of a refusal fits
 --     of-kind, other-kind      a record by its kind
 --     stepped      the row with a record's word
---     insert-word, remove-word, cleanup-word       a refusal's word fits
 use mathlib.Core.Path.{_≡_, refl, ap, sym, _∙_, subst, subst₂}
 use mathlib.Core.List.{List, []}
 use mathlib.Core.Logic.{⊎-elim}
-use mathlib.Core.Bool.{Bool}
+use mathlib.Core.Bool.{Bool, true, false}
 use Prim.Native.Nat.{ℕ, _≤_}
 use native.Mathlib.Omega.{arith}
 use lib.IntN.{ℤ}
 use lib.ListN.{length, replicate, set}
-use Rattle.arithmetic.specs.Laws.Tests.{byBool}
 use Rattle.geometry.specs.declared.aabb.AABB.{AABB}
 use Rattle.model.specs.declared.Dot.{Dot}
 use Rattle.model.specs.declared.Record.{Record}
 use Rattle.model.specs.declared.State.{State}
 use Rattle.model.specs.declared.answers.InsertAnswer.{InsertAnswer}
 use Rattle.model.specs.declared.answers.InsertAnswer.the-variants as insert
-use Rattle.model.specs.declared.answers.RemoveAnswer.{RemoveAnswer}
-use Rattle.model.specs.declared.answers.RemoveAnswer.the-variants as remove
-use Rattle.model.specs.declared.answers.CleanupAnswer.{CleanupAnswer}
-use Rattle.model.specs.declared.answers.CleanupAnswer.the-variants as cleanup
-use Rattle.model.specs.Shapes.{Shape, Valid, foundBy}
-use Rattle.model.specs.Layout.{World, world, cleared, layout, Holds, changedState}
-use Rattle.model.specs.Calls.{Reply, refused, tooMany, answered, Verdict, refuse, overflow, accept, exit, refusal, carriedOut}
-use Rattle.model.specs.Calls.{Recorded, recorded, refusedWord, yesNo, insertRule, removeRule, cleanupRule, carryOut}
-use Rattle.model.specs.Answers.{insertReply, insertState, removeReply, removeState, cleanupReply, cleanupState}
-use Rattle.model.specs.Laws.Layout.{holds-settings}
-use Rattle.model.specs.Laws.Calls.{insert-cases, world-of, reply-of}
+use Rattle.model.specs.declared.answers.YesNoAnswer.{YesNoAnswer}
+use Rattle.model.specs.declared.answers.YesNoAnswer.the-variants as said
+use Rattle.model.specs.Shapes.{Shape, Valid, removed, foundBy, cleaned, cleans}
+use Rattle.model.specs.Layout.{World, world, cleared, layout, Holds, sameSettings}
+use Rattle.model.specs.Calls.{Reply, Verdict, refuse, overflow, accept, exit, refusal, carriedOut}
+use Rattle.model.specs.Calls.{Recorded, recorded, refusedWord, yesNo, insertRule, yesOrNo, removeRule, cleanupRule, carryOut}
+use Rattle.model.specs.Answers.{insertReply, insertState, yesNoReply, yesNoState}
+use Rattle.model.specs.Laws.Layout.{same-settings, holds-settings}
+use Rattle.model.specs.Laws.Calls.{counted-cases, insert-cases, world-of, reply-of}
 use Rattle.model.specs.Laws.Batches.{record-valid, record-settings, insert-record, remove-record, cleanup-record, other-record}
 use Rattle.tree.specs.Operations.{IsTree, CarriedOut}
 use Rattle.tree_cleanup.specs.Answers.{CleanedUp}
 use Rattle.batch_step.specs.declared.Batched.{Batched}
-use Rattle.batch_step.specs.Steps.{recordOf, RecordCarriedOut, Stepped}
+use Rattle.batch_step.specs.Steps.{recordOf, replyWord, RecordCarriedOut, Stepped}
 
--- ---- the answer word of a reply
+-- ---- an answer, by what the code's match has told of it
 
-abbrev replyWord : {A : Type 0} → (A → ℕ) → Reply A → ℕ
-replyWord word (refused k) = refusedWord k
-replyWord word (tooMany n) = refusedWord 8
-replyWord word (answered a) = word a
+module _ (s : State) {a : InsertAnswer} where
+  pub splits-small : {k : ℕ} → a ≡ insert.Refused k → refusal (insertReply a) ≤ 255 → k ≤ 255
+  splits-small e h = rw e at h
+
+  pub splits-refused : {k n : ℕ} → a ≡ insert.Refused k → n ≡ refusedWord k
+      → (n ≡ replyWord (λ m. m) (insertReply a)) × (s ≡ insertState s a)
+  splits-refused e w = rw e (w, refl)
+
+  pub splits-made : {k : ℕ} {s′ : State} → a ≡ insert.Splits k s′ → (k ≡ replyWord (λ m. m) (insertReply a)) × (s′ ≡ insertState s a)
+  splits-made e = rw e (refl, refl)
+
+module _ (s : State) {a : YesNoAnswer} where
+  pub said-small : {k : ℕ} → a ≡ said.Refused k → refusal (yesNoReply a) ≤ 255 → k ≤ 255
+  said-small e h = rw e at h
+
+  pub said-refused : {k n : ℕ} → a ≡ said.Refused k → n ≡ refusedWord k
+      → (n ≡ replyWord yesNo (yesNoReply a)) × (s ≡ yesNoState s a)
+  said-refused e w = rw e (w, refl)
+
+  pub said-yes : {s′ : State} → a ≡ said.Yes s′ → (1 ≡ replyWord yesNo (yesNoReply a)) × (s′ ≡ yesNoState s a)
+  said-yes e = rw e (refl, refl)
+
+  pub said-no : a ≡ said.No → (0 ≡ replyWord yesNo (yesNoReply a)) × (s ≡ yesNoState s a)
+  said-no e = rw e (refl, refl)
+
+-- ---- a record by its operation
 
 module _ {A : Type 0} (word : A → ℕ) (w w′ : World) (x : Shape) (reply : Reply A) (same : cleared w ≡ layout x) where
   left-by : (v : Verdict ℕ A) → exit w′ [] reply ≡ carriedOut w [] v → (w′ ≡ layout (recorded word x v .shape))
@@ -48,10 +68,6 @@ module _ {A : Type 0} (word : A → ℕ) (w w′ : World) (x : Shape) (reply : R
   left-by (refuse k) e = (world-of e ∙ same, ap (replyWord word) (reply-of e))
   left-by (overflow n) e = (world-of e ∙ same, ap (replyWord word) (reply-of e))
   left-by (accept y row a) e = (world-of e, ap (replyWord word) (reply-of e))
-
--- a state with the heads and the live number of another
-abbrev Changed : State → State → State → Type 0
-Changed s u s′ = u ≡ changedState s (s′ .«free_group») (s′ .«free_place») (s′ .live)
 
 module _ {A : Type 0} (word : A → ℕ) (rule : Shape → Verdict ℕ A) (r : Record) (is : (x : Shape) → carryOut r x ≡ recorded word x (rule x))
     {s : State} {nodes dots : List ℕ} {rects : List ℤ} {s′ : State} {nodes′ dots′ : List ℕ} {rects′ : List ℤ} {reply : Reply A}
@@ -66,77 +82,32 @@ module _ {A : Type 0} (word : A → ℕ) (rule : Shape → Verdict ℕ A) (r : R
         e .1 ∙ ap (λ (z : Recorded). z .word) (sym (is x)),
       )
 
-  kept-settings : IsTree s nodes dots rects → s′ .settings ≡ s .settings
-  kept-settings t =
-      let x = t .shape in
-      holds-settings (world s′ nodes′ dots′ rects′ (t .marks)) (carryOut r x .shape) (by-rule (t .marks) x (t .holds) .0)
-      ∙ record-settings r x (t .holds .valid)
-      ∙ sym (holds-settings (world s nodes dots rects (t .marks)) x (t .holds))
+  by-answer : {u : State} {n : ℕ} → (n ≡ replyWord word reply) × (u ≡ s′) → RecordCarriedOut (carryOut r) s nodes dots rects u nodes′ dots′ rects′ n
+  by-answer left =
+      subst₂ (λ (v : State) (m : ℕ). RecordCarriedOut (carryOut r) s nodes dots rects v nodes′ dots′ rects′ m) (sym (left .1)) (sym (left .0)) by-rule
 
-  -- the settings are kept, so that the state after a record is the one before with other heads and another live number
-  by-changed : IsTree s nodes dots rects → (u : State) (n : ℕ) → Changed s u s′ → n ≡ replyWord word reply
-      → RecordCarriedOut (carryOut r) s nodes dots rects u nodes′ dots′ rects′ n
-  by-changed t u n e k =
-      let settings = kept-settings t in
-      let same : s′ ≡ changedState s (s′ .«free_group») (s′ .«free_place») (s′ .live) =
-      λ i. record { settings = settings i; «free_group» = s′ .«free_group»; «free_place» = s′ .«free_place»; live = s′ .live } in
-      subst₂ (λ (v : State) (m : ℕ). RecordCarriedOut (carryOut r) s nodes dots rects v nodes′ dots′ rects′ m) (same ∙ sym e) (sym k) by-rule
+module _ {s : State} {nodes dots : List ℕ} {rects : List ℤ} {nodes′ dots′ : List ℕ} {rects′ : List ℤ} {u : State} {n : ℕ} where
+  pub insert-done : (dot : Dot) (a : InsertAnswer) → CarriedOut (insertRule dot) s nodes dots rects (insertState s a) nodes′ dots′ rects′ (insertReply a)
+      → (n ≡ replyWord (λ m. m) (insertReply a)) × (u ≡ insertState s a)
+      → RecordCarriedOut (carryOut (recordOf 0 dot)) s nodes dots rects u nodes′ dots′ rects′ n
+  insert-done dot a done left =
+      by-answer (λ m. m) (insertRule dot) (recordOf 0 dot) (λ x. insert-record (recordOf 0 dot) x refl) done left
 
--- the answers of each operation, by what the code's match has told of them
-module _ {s : State} {nodes dots : List ℕ} {rects : List ℤ} (t : IsTree s nodes dots rects) (dot : Dot) {nodes′ dots′ : List ℕ} {rects′ : List ℤ} where
-  module _ (a : InsertAnswer) (done : CarriedOut (insertRule dot) s nodes dots rects (insertState s a) nodes′ dots′ rects′ (insertReply a)) where
-    insert-done : (b : InsertAnswer) → a ≡ b → (u : State) (n : ℕ) → Changed s u (insertState s b) → n ≡ replyWord (λ k. k) (insertReply b)
-        → RecordCarriedOut (carryOut (recordOf 0 dot)) s nodes dots rects u nodes′ dots′ rects′ n
-    insert-done b e =
-        by-changed (λ k. k) (insertRule dot) (recordOf 0 dot) (λ x. insert-record (recordOf 0 dot) x refl)
-        (subst (λ (v : InsertAnswer). CarriedOut (insertRule dot) s nodes dots rects (insertState s v) nodes′ dots′ rects′ (insertReply v)) e done) t
-
-    pub insert-refused : {k n : ℕ} → a ≡ insert.Refused k → n ≡ refusedWord k
-        → RecordCarriedOut (carryOut (recordOf 0 dot)) s nodes dots rects s nodes′ dots′ rects′ n
-    insert-refused e w = insert-done _ e s _ refl w
-
-    pub insert-splits : {k : ℕ} {s′ u : State} → a ≡ insert.Splits k s′ → Changed s u s′
-        → RecordCarriedOut (carryOut (recordOf 0 dot)) s nodes dots rects u nodes′ dots′ rects′ k
-    insert-splits e c = insert-done _ e _ _ c refl
-
-  module _ (a : RemoveAnswer) (done : CarriedOut (removeRule (dot .id) (dot .rect)) s nodes dots rects (removeState s a) nodes′ dots′ rects′
-      (removeReply a)) where
-    remove-done : (b : RemoveAnswer) → a ≡ b → (u : State) (n : ℕ) → Changed s u (removeState s b) → n ≡ replyWord yesNo (removeReply b)
-        → RecordCarriedOut (carryOut (recordOf 1 dot)) s nodes dots rects u nodes′ dots′ rects′ n
-    remove-done b e =
-        by-changed yesNo (removeRule (dot .id) (dot .rect)) (recordOf 1 dot) (λ x. remove-record (recordOf 1 dot) x refl)
-        (subst (λ (v : RemoveAnswer). CarriedOut (removeRule (dot .id) (dot .rect)) s nodes dots rects (removeState s v) nodes′ dots′ rects′
-        (removeReply v)) e done) t
-
-    pub remove-refused : {k n : ℕ} → a ≡ remove.Refused k → n ≡ refusedWord k
-        → RecordCarriedOut (carryOut (recordOf 1 dot)) s nodes dots rects s nodes′ dots′ rects′ n
-    remove-refused e w = remove-done _ e s _ refl w
-
-    pub remove-yes : {s′ u : State} → a ≡ remove.Yes s′ → Changed s u s′
-        → RecordCarriedOut (carryOut (recordOf 1 dot)) s nodes dots rects u nodes′ dots′ rects′ 1
-    remove-yes e c = remove-done _ e _ _ c refl
-
-    pub remove-no : a ≡ remove.No → RecordCarriedOut (carryOut (recordOf 1 dot)) s nodes dots rects s nodes′ dots′ rects′ 0
-    remove-no e = remove-done _ e s _ refl refl
+  pub remove-done : (dot : Dot) (a : YesNoAnswer)
+      → CarriedOut (removeRule (dot .id) (dot .rect)) s nodes dots rects (yesNoState s a) nodes′ dots′ rects′ (yesNoReply a)
+      → (n ≡ replyWord yesNo (yesNoReply a)) × (u ≡ yesNoState s a)
+      → RecordCarriedOut (carryOut (recordOf 1 dot)) s nodes dots rects u nodes′ dots′ rects′ n
+  remove-done dot a done left =
+      by-answer yesNo (removeRule (dot .id) (dot .rect)) (recordOf 1 dot) (λ x. remove-record (recordOf 1 dot) x refl) done left
 
 -- a cleanup's record may have any dot
-module _ {s : State} {nodes dots : List ℕ} {rects : List ℤ} (t : IsTree s nodes dots rects) (a : CleanupAnswer) (nodes′ : List ℕ)
-    (done : CleanedUp s nodes nodes′ a) where
-  cleanup-done : (b : CleanupAnswer) → a ≡ b → (u : State) (n : ℕ) → Changed s u (cleanupState s b)
-      → n ≡ replyWord yesNo (cleanupReply b) → (dot : Dot) → RecordCarriedOut (carryOut (recordOf 2 dot)) s nodes dots rects u nodes′ dots rects n
-  unfolding CleanedUp
-  cleanup-done b e u n c k dot =
-      by-changed yesNo cleanupRule (recordOf 2 dot) (λ x. cleanup-record (recordOf 2 dot) x refl)
-      (subst (λ (v : CleanupAnswer). CarriedOut cleanupRule s nodes dots rects (cleanupState s v) nodes′ dots rects (cleanupReply v)) e
-      (done dots rects)) t u n c k
-
-  pub cleanup-refused : {k n : ℕ} → a ≡ cleanup.Refused k → n ≡ refusedWord k → (dot : Dot)
-      → RecordCarriedOut (carryOut (recordOf 2 dot)) s nodes dots rects s nodes′ dots rects n
-  cleanup-refused e w = cleanup-done _ e s _ refl w
-
-  pub cleanup-said : {yes? : Bool} {s′ u : State} {n : ℕ} → a ≡ cleanup.Done yes? s′ → Changed s u s′ → n ≡ yesNo yes?
+module _ {s : State} {nodes dots : List ℕ} {rects : List ℤ} {nodes′ : List ℕ} where
+  pub cleanup-done : {u : State} {n : ℕ} (a : YesNoAnswer) → CleanedUp s nodes nodes′ a
+      → (n ≡ replyWord yesNo (yesNoReply a)) × (u ≡ yesNoState s a)
       → (dot : Dot) → RecordCarriedOut (carryOut (recordOf 2 dot)) s nodes dots rects u nodes′ dots rects n
-  cleanup-said e c w = cleanup-done _ e _ _ c w
+  unfolding CleanedUp
+  cleanup-done a done left dot =
+      by-answer yesNo cleanupRule (recordOf 2 dot) (λ x. cleanup-record (recordOf 2 dot) x refl) (done dots rects) left
 
 -- ---- the kind of a record
 
@@ -156,47 +127,59 @@ pub of-kind : (r : Record) (k : ℕ) → r .kind ≡ k
 of-kind r k e {s} {nodes} {dots} {rects} {s′} {nodes′} {dots′} {rects′} {n} d =
     subst (λ (j : ℕ). RecordCarriedOut (carryOut (recordOf j (r .dot))) s nodes dots rects s′ nodes′ dots′ rects′ n) (sym e) d
 
--- the row with the record's word
-pub stepped : (r : Record) (i : ℕ) {b : Batched} {answers nodes dots : List ℕ} {rects : List ℤ} {s′ : State} {nodes′ dots′ : List ℕ} {rects′ : List ℤ} {n : ℕ}
-    → RecordCarriedOut (carryOut r) (b .state) nodes dots rects s′ nodes′ dots′ rects′ n
-    → Stepped r i b answers nodes dots rects (record { refusal = b .refusal; count = b .count; state = s′ }) (set answers i n) nodes′ dots′ rects′
-stepped r i {answers = answers} done =
-    record { refusal = refl; count = refl; words = λ marks x h. let e = done marks x h in (e .0, ap (set answers i) (e .1)) }
+-- ---- the row with the record's word, and the settings as they were
+
+module _ (r : Record) {s : State} {nodes dots : List ℕ} {rects : List ℤ} (t : IsTree s nodes dots rects) {s′ : State} {nodes′ dots′ : List ℕ} {rects′ : List ℤ}
+    {n : ℕ} (done : RecordCarriedOut (carryOut r) s nodes dots rects s′ nodes′ dots′ rects′ n) where
+  kept-settings : s′ .settings ≡ s .settings
+  kept-settings =
+      let x = t .shape in
+      holds-settings (world s′ nodes′ dots′ rects′ (t .marks)) (carryOut r x .shape) (done (t .marks) x (t .holds) .0)
+      ∙ record-settings r x (t .holds .valid)
+      ∙ sym (holds-settings (world s nodes dots rects (t .marks)) x (t .holds))
+
+  same-carried-out : {u : State} → u ≡ sameSettings s s′ → RecordCarriedOut (carryOut r) s nodes dots rects u nodes′ dots′ rects′ n
+  same-carried-out e =
+      subst (λ (v : State). RecordCarriedOut (carryOut r) s nodes dots rects v nodes′ dots′ rects′ n) (same-settings s s′ kept-settings ∙ sym e) done
+
+pub stepped : (r : Record) (i : ℕ) {b : Batched} {answers nodes dots : List ℕ} {rects : List ℤ} {s′ u : State} {nodes′ dots′ : List ℕ} {rects′ : List ℤ} {n : ℕ}
+    → IsTree (b .state) nodes dots rects → RecordCarriedOut (carryOut r) (b .state) nodes dots rects s′ nodes′ dots′ rects′ n → u ≡ sameSettings (b .state) s′
+    → Stepped r i b answers nodes dots rects (record { refusal = b .refusal; count = b .count; state = u }) (set answers i n) nodes′ dots′ rects′
+stepped r i {answers = answers} t done e = record {
+  refusal = refl;
+  count = refl;
+  words = λ marks x h. let w = same-carried-out r t done e marks x h in (w .0, ap (set answers i) (w .1));
+}
 
 -- ---- refusals
 
 insert-small : (dot : Dot) (w : World) (x : Shape) → Valid x → refusal (carriedOut w [] (insertRule dot x) .reply) ≤ 255
-insert-small dot w x v = ⊎-elim (λ k. rw (k .1) (k .3)) (λ g. rw (g .3) (omega arith)) (insert-cases dot x v)
+insert-small dot w x v = ⊎-elim (λ k. rw (k .1) (k .2 .byte)) (λ g. rw (g .1) (omega arith)) (insert-cases dot x v)
 
-remove-small : (id : ℕ) (r : AABB) (w : World) (x : Shape) → Valid x → refusal (carriedOut w [] (removeRule id r x) .reply) ≤ 255
-unfolding removeRule
-remove-small id r w x v = byBool (foundBy id r x) (λ e. rw e (omega arith)) (λ e. rw e (omega arith))
-
-cleanup-small : (w : World) (x : Shape) → Valid x → refusal (carriedOut w [] (cleanupRule x) .reply) ≤ 255
-unfolding cleanupRule
-cleanup-small w x v = omega arith
+says-small : (yes? : Bool) (other : Shape) (w : World) (x : Shape) → refusal (carriedOut w [] (yesOrNo yes? other x) .reply) ≤ 255
+says-small true other w x = ⊎-elim (λ c. rw (c .0) (omega arith)) (λ c. rw (c .0) (omega arith)) (counted-cases {B = ℕ} other [] true)
+says-small false other w x = omega arith
 
 -- a refusal's word fits where the rule's refusals do
 by-small : {A : Type 0} (rule : Shape → Verdict ℕ A) → ((w : World) (x : Shape) → Valid x → refusal (carriedOut w [] (rule x) .reply) ≤ 255)
     → {s : State} {nodes dots : List ℕ} {rects : List ℤ} {s′ : State} {nodes′ dots′ : List ℕ} {rects′ : List ℤ} {reply : Reply A}
-    → IsTree s nodes dots rects → CarriedOut rule s nodes dots rects s′ nodes′ dots′ rects′ reply → (k : ℕ) → reply ≡ refused k → k ≤ 255
-by-small rule small {s} {nodes} {dots} {rects} t done k e =
+    → IsTree s nodes dots rects → CarriedOut rule s nodes dots rects s′ nodes′ dots′ rects′ reply → refusal reply ≤ 255
+by-small rule small {s} {nodes} {dots} {rects} t done =
     let w = world s nodes dots rects (t .marks) in
-    let told = ap refusal (sym e ∙ reply-of (done (t .marks) (t .shape) (t .holds))) in
-    omega (arith, told, small w (t .shape) (t .holds .valid))
+    omega (arith, ap refusal (reply-of (done (t .marks) (t .shape) (t .holds))), small w (t .shape) (t .holds .valid))
 
-module _ {s : State} {nodes dots : List ℕ} {rects : List ℤ} (t : IsTree s nodes dots rects) {nodes′ dots′ : List ℕ} {rects′ : List ℤ} {k : ℕ} where
+module _ {s : State} {nodes dots : List ℕ} {rects : List ℤ} (t : IsTree s nodes dots rects) {nodes′ dots′ : List ℕ} {rects′ : List ℤ} where
   pub insert-word : (dot : Dot) (a : InsertAnswer) → CarriedOut (insertRule dot) s nodes dots rects (insertState s a) nodes′ dots′ rects′ (insertReply a)
-      → a ≡ insert.Refused k → k ≤ 255
-  insert-word dot a done e = by-small (insertRule dot) (insert-small dot) t done k (ap insertReply e)
+      → refusal (insertReply a) ≤ 255
+  insert-word dot a done = by-small (insertRule dot) (insert-small dot) t done
 
-  pub remove-word : (id : ℕ) (r : AABB) (a : RemoveAnswer) → CarriedOut (removeRule id r) s nodes dots rects (removeState s a) nodes′ dots′ rects′
-      (removeReply a)
-      → a ≡ remove.Refused k → k ≤ 255
-  remove-word id r a done e = by-small (removeRule id r) (remove-small id r) t done k (ap removeReply e)
+  pub remove-word : (id : ℕ) (r : AABB) (a : YesNoAnswer)
+      → CarriedOut (removeRule id r) s nodes dots rects (yesNoState s a) nodes′ dots′ rects′ (yesNoReply a) → refusal (yesNoReply a) ≤ 255
+  unfolding removeRule
+  remove-word id r a done = by-small (removeRule id r) (λ w x v. says-small (foundBy id r x) (removed id r x) w x) t done
 
-pub cleanup-word : {s : State} {nodes dots : List ℕ} {rects : List ℤ} → IsTree s nodes dots rects → (a : CleanupAnswer) (nodes′ : List ℕ)
-    → CleanedUp s nodes nodes′ a
-    → {k : ℕ} → a ≡ cleanup.Refused k → k ≤ 255
-unfolding CleanedUp
-cleanup-word {dots = dots} {rects = rects} t a nodes′ done {k} e = by-small cleanupRule cleanup-small t (done dots rects) k (ap cleanupReply e)
+pub cleanup-word : {s : State} {nodes dots : List ℕ} {rects : List ℤ} → IsTree s nodes dots rects → (nodes′ : List ℕ) (a : YesNoAnswer)
+    → CleanedUp s nodes nodes′ a → refusal (yesNoReply a) ≤ 255
+unfolding CleanedUp cleanupRule
+cleanup-word {dots = dots} {rects = rects} t nodes′ a done =
+    by-small cleanupRule (λ w x v. says-small (cleans x) (cleaned x) w x) t (done dots rects)

@@ -1,5 +1,6 @@
 -- Each call obeys its statement: a refusal of the check is handed back, else the operation without the check says what is left.
---     insert-refused, insert-answered; remove-refused, remove-answered; cleanup-refused, cleanup-answered
+--     insert-refused, insert-answered; ask-refused, ask-answered; place-refused, place-answered
+--     remove-refused, remove-answered; cleanup-refused, cleanup-answered
 --     query-refused, query-answered; all-refused, all-answered; leaves-refused, leaves-answered
 --     references-refused, references-counted; grid-refused, grid-answered
 use mathlib.Core.Path.{_≡_, ap, _∙_, subst}
@@ -14,14 +15,17 @@ use Rattle.grid.specs.declared.grid.Grid.{Grid}
 use Rattle.model.specs.declared.Dot.{Dot}
 use Rattle.model.specs.declared.Window.{Window}
 use Rattle.model.specs.declared.State.{State}
+use Rattle.model.specs.declared.Ticket.{Ticket}
+use Rattle.model.specs.declared.answers.Asked.{Asked}
 use Rattle.model.specs.declared.answers.Found.{Found}
-use Rattle.model.specs.declared.answers.CleanupAnswer.{CleanupAnswer}
+use Rattle.model.specs.declared.answers.YesNoAnswer.{YesNoAnswer}
 use Rattle.model.specs.Dots.{ofAllInks}
 use Rattle.model.specs.Shapes.{references}
 use Rattle.model.specs.Layout.{world, cleared}
-use Rattle.model.specs.Answers.{cleanupReply, cleanupState}
+use Rattle.model.specs.Answers.{yesNoReply, yesNoState}
 use Rattle.model.specs.Calls.{Reply, refused, answered, exit, Query, All, Leaves, References, GridReport, Insert, Remove, Cleanup}
 use Rattle.model.specs.Calls.{queryRule, leavesRule, referencesRule, gridRule, insertRule, removeRule, cleanupRule}
+use Rattle.model.specs.Tickets.{Ask, Place, askRule, placeRule}
 use Rattle.model.specs.Laws.Listing.{all-query}
 use Rattle.model.specs.Laws.Memory.{holds-represented}
 use Rattle.tree_check.specs.Checks.{Checked}
@@ -32,7 +36,7 @@ use Rattle.tree_cleanup.specs.Answers.{CleanedUp}
 use Rattle.calls.specs.Laws.Pattern.{call-refused, call-carried}
 
 module _ {s : State} {nodes dots : List ℕ} {rects : List ℤ} {marks marks′ : List ℕ} {refusal : ℕ} (c : Checked s nodes dots rects marks marks′ refusal) where
-  -- ---- the calls that change the tree
+  -- ---- the calls that change the tree, and the ask
 
   module _ (dot : Dot) where
     pub insert-refused : (refusal ≡ 0 → ⊥) → Insert (world s nodes dots rects marks) dot (world s nodes dots rects marks′) (refused refusal)
@@ -44,6 +48,26 @@ module _ {s : State} {nodes dots : List ℕ} {rects : List ℤ} {marks marks′ 
         → Insert (world s nodes dots rects marks) dot (world s′ nodes′ dots′ rects′ marks′) reply
     unfolding Insert
     insert-answered z done = call-carried c (insertRule dot) [] z done
+
+    pub ask-refused : (refusal ≡ 0 → ⊥) → Ask (world s nodes dots rects marks) dot (world s nodes dots rects marks′) (refused refusal)
+    unfolding Ask
+    ask-refused ne = call-refused c (askRule dot) [] ne
+
+    pub ask-answered : refusal ≡ 0 → {reply : Reply Asked} → CarriedOut (askRule dot) s nodes dots rects s nodes dots rects reply
+        → Ask (world s nodes dots rects marks) dot (world s nodes dots rects marks′) reply
+    unfolding Ask
+    ask-answered z done = call-carried c (askRule dot) [] z done
+
+  module _ (t : Ticket) where
+    pub place-refused : (refusal ≡ 0 → ⊥) → Place (world s nodes dots rects marks) t (world s nodes dots rects marks′) (refused refusal)
+    unfolding Place
+    place-refused ne = call-refused c (placeRule t) [] ne
+
+    pub place-answered : refusal ≡ 0 → {s′ : State} {nodes′ dots′ : List ℕ} {rects′ : List ℤ} {reply : Reply ℕ}
+        → CarriedOut (placeRule t) s nodes dots rects s′ nodes′ dots′ rects′ reply
+        → Place (world s nodes dots rects marks) t (world s′ nodes′ dots′ rects′ marks′) reply
+    unfolding Place
+    place-answered z done = call-carried c (placeRule t) [] z done
 
   module _ (id : ℕ) (r : AABB) where
     pub remove-refused : (refusal ≡ 0 → ⊥) → Remove (world s nodes dots rects marks) id r (world s nodes dots rects marks′) (refused refusal)
@@ -60,8 +84,8 @@ module _ {s : State} {nodes dots : List ℕ} {rects : List ℤ} {marks marks′ 
   unfolding Cleanup
   cleanup-refused ne = call-refused c cleanupRule [] ne
 
-  pub cleanup-answered : refusal ≡ 0 → (nodes′ : List ℕ) (r : CleanupAnswer) → CleanedUp s nodes nodes′ r
-      → Cleanup (world s nodes dots rects marks) (world (cleanupState s r) nodes′ dots rects marks′) (cleanupReply r)
+  pub cleanup-answered : refusal ≡ 0 → (nodes′ : List ℕ) (r : YesNoAnswer) → CleanedUp s nodes nodes′ r
+      → Cleanup (world s nodes dots rects marks) (world (yesNoState s r) nodes′ dots rects marks′) (yesNoReply r)
   unfolding Cleanup CleanedUp
   cleanup-answered z nodes′ r done = call-carried c cleanupRule [] z (done dots rects)
 

@@ -19,9 +19,10 @@ use Rattle.model.specs.Answers.{makeReply, makeState}
 use Rattle.model.specs.Layout.{World, world}
 use Rattle.model.specs.Calls.{Reply, Make}
 use Rattle.tree_check.specs.Checks.{Checked}
-use Rattle.krakvinge.specs.Rows.{settingsIn, stateIn, rowsFit}
-use Rattle.krakvinge.specs.Exports.{Lent, worldOf, resultOf, stateRow, number, Out, Exported, LaysPatch, madeRow, Makes, Checks}
-use Rattle.krakvinge.specs.Laws.Rows.{unfit, fit, kept-row}
+use Rattle.host_rows.specs.Rows.{CountFits, settingsIn, stateIn, rowsFit}
+use Rattle.host_rows.specs.Answers.{resultOf, stateRow, number, Out, madeRow}
+use Rattle.host_rows.specs.Laws.Rows.{unfit, fit, kept-row}
+use Rattle.krakvinge.specs.Exports.{Lent, worldOf, Exported, LaysPatch, Makes, Checks}
 
 module _ {B A : Type 0} {fits : Bool} {words : A → List ℕ} {says : World → List B → World → List B → Reply A → Type 0} where
   pub exported-other : {l : Lent} {row : List B} {b : Bool} → b ≡ fits → not b ≡ true → Exported fits words says l row l row 1
@@ -42,11 +43,12 @@ module _ {B A : Type 0} {fits : Bool} {words : A → List ℕ} {says : World →
         }
 
     pub exported-read : (reply : Reply A)
-        → b ≡ fits → not b ≡ false → s ≡ stateIn (l .state)
+        → b ≡ fits → not b ≡ false → (s ≡ stateIn (l .state)) × CountFits (l .state) 10
         → says (worldOf s l) row (worldOf s l′) row′ reply
         → l′ .state ≡ l .state → Out words reply (l .answer) (l′ .answer) result
         → Exported fits words says l row l′ row′ result
-    exported-read reply test n e said state out = exported-changed (λ t. t) reply test n e said (state ∙ kept-row (l .state) reply) out
+    exported-read reply test n read said state out =
+        exported-changed (λ t. t) reply test n (read .0) said (state ∙ kept-row (l .state) (read .1) reply) out
 
 -- ---- the patch
 
@@ -63,24 +65,24 @@ module _ {p : Patch} {l : Lent} {b : Bool} (test : b ≡ patchFits p) where
 -- ---- the check and make
 
 module _ (row nodes dots : List ℕ) (rects : List ℤ) (marks : List ℕ) where
-  pub check-other : (length row ≡ 10 → ⊥) → Checks row nodes dots rects marks marks 1
+  pub check-other : (length row ≡ 12 → ⊥) → Checks row nodes dots rects marks marks 1
   check-other ne = record { otherLength = λ _. (refl, refl); carriedOut = λ e. absurd (ne e) }
 
-  pub check-row : (s : State) (marks′ : List ℕ) (result : ℕ) → length row ≡ 10 → s ≡ stateIn row → Checked s nodes dots rects marks marks′ result
+  pub check-row : (s : State) (marks′ : List ℕ) (result : ℕ) → length row ≡ 12 → s ≡ stateIn row → Checked s nodes dots rects marks marks′ result
       → Checks row nodes dots rects marks marks′ result
-  check-row s marks′ result ten e c =
-      record { otherLength = λ ne. absurd (ne ten); carriedOut = λ _. subst (λ (t : State). Checked t nodes dots rects marks marks′ result) e c }
+  check-row s marks′ result twelve e c =
+      record { otherLength = λ ne. absurd (ne twelve); carriedOut = λ _. subst (λ (t : State). Checked t nodes dots rects marks marks′ result) e c }
 
-  pub make-other : (length row ≡ 10 → ⊥) → Makes row nodes dots rects marks row nodes dots rects marks 1
+  pub make-other : (length row ≡ 12 → ⊥) → Makes row nodes dots rects marks row nodes dots rects marks 1
   make-other ne = record { otherLength = λ _. (refl, refl, refl, refl, refl, refl); carriedOut = λ e. absurd (ne e) }
 
-  pub make-row : (s : Settings) (row′ nodes′ dots′ : List ℕ) (rects′ : List ℤ) (marks′ : List ℕ) (result : ℕ) (m : MakeAnswer) → length row ≡ 10
+  pub make-row : (s : Settings) (row′ nodes′ dots′ : List ℕ) (rects′ : List ℤ) (marks′ : List ℕ) (result : ℕ) (m : MakeAnswer) → length row ≡ 12
       → s ≡ settingsIn row
       → ((before : State) → Make (world before nodes dots rects marks) s (world (makeState before m) nodes′ dots′ rects′ marks′) (makeReply m))
       → result ≡ resultOf (makeReply m) → row′ ≡ madeRow m row → Makes row nodes dots rects marks row′ nodes′ dots′ rects′ marks′ result
-  make-row s row′ nodes′ dots′ rects′ marks′ result m ten e made same written =
+  make-row s row′ nodes′ dots′ rects′ marks′ result m twelve e made same written =
       record {
-        otherLength = λ ne. absurd (ne ten);
+        otherLength = λ ne. absurd (ne twelve);
         carriedOut = λ _. (
           m,
           (λ before. subst (λ (t : Settings). Make (world before nodes dots rects marks) t

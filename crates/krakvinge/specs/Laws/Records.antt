@@ -1,5 +1,5 @@
 -- Laws of a batch's records as a row of words.
---     batch-ten    what the code's test of the lengths says
+--     batch-twelve    what the code's test of the lengths says
 --     records-length, begun-records, stepped-record    the records of a row, in a batch
 --     batch-refused, batch-answered    its reply
 use mathlib.Core.Path.{_≡_, refl, sym, _∙_, subst}
@@ -21,12 +21,12 @@ use Rattle.model.specs.Calls.{refused, answered}
 use Rattle.batch_step.specs.declared.Batched.{Batched}
 use Rattle.batch_step.specs.Steps.{Begun, Stepped}
 use Rattle.batch.specs.Answers.{noRecord, batchReply}
-use Rattle.krakvinge.specs.Records.{recordWords, recordIn, recordsIn, batchFits}
-use Rattle.krakvinge.specs.Laws.Rows.{fit}
+use Rattle.host_rows.specs.Records.{recordWords, recordIn, recordsIn, batchFits}
+use Rattle.host_rows.specs.Laws.Rows.{fit}
 
-pub batch-ten : (state records : List ℕ) {b : Bool} → b ≡ batchFits state records → not b ≡ false → length state ≡ 10
+pub batch-twelve : (state records : List ℕ) {b : Bool} → b ≡ batchFits state records → not b ≡ false → length state ≡ 12
 unfolding batchFits
-batch-ten state records test n = eqb-true _ _ (and-t (eqb (length state) 10) (eqb (length records % recordWords) 0) (fit test n) .0)
+batch-twelve state records test n = eqb-true _ _ (and-t (eqb (length state) 12) (eqb (length records % recordWords) 0) (fit test n) .0)
 
 pub records-length : (row : List ℕ) → length (recordsIn row) ≡ length row / recordWords
 unfolding recordsIn

@@ -7,17 +7,18 @@
 use mathlib.Core.Path.{_≡_, refl, ap, sym, subst}
 use mathlib.Core.Logic.{⊎-elim}
 use mathlib.Core.List.{List, [], _∷_, _++_}
+use mathlib.Core.Bool.{Bool, true, false}
 use Prim.Native.Nat.{ℕ, suc}
 use lib.ListN.{length}
-use lib.Dec.{eqb}
+use lib.Dec.{eqb, ltb}
 use borrow.Author.Tests.{eq-eqb, ne-eqb}
 use Rattle.arithmetic.specs.Laws.Tests.{byBool}
 use Rattle.model.specs.declared.Dot.{Dot}
 use Rattle.model.specs.declared.Record.{Record}
-use Rattle.model.specs.Shapes.{Shape, Valid, foundBy, inserted, removed, cleaned}
-use Rattle.model.specs.Calls.{recorded, refusedWord, yesNo, insertRule, removeRule, cleanupRule, carryOut, batchShape, batchWords}
+use Rattle.model.specs.Shapes.{Shape, Valid, foundBy, inserted, removed, cleaned, cleans}
+use Rattle.model.specs.Calls.{largestCount, yesOrNo, recorded, refusedWord, yesNo, insertRule, removeRule, cleanupRule, carryOut, batchShape, batchWords}
 use Rattle.model.specs.Laws.Shapes.{inserted-valid, removed-valid, cleaned-valid}
-use Rattle.model.specs.Laws.Calls.{insert-cases}
+use Rattle.model.specs.Laws.Calls.{Goes, insert-cases}
 
 pub batch-words : (rs : List Record) (x : Shape) → length (batchWords rs x) ≡ length rs
 batch-words [] x = refl
@@ -49,61 +50,40 @@ module _ (r : Record) (x : Shape) where
   unfolding carryOut
   other-record a b c = rw (ne-eqb (r .kind) 0 a, ne-eqb (r .kind) 1 b, ne-eqb (r .kind) 2 c) refl
 
--- ---- the tree is kept
+-- ---- what each single operation keeps, a record keeps
 
-insert-keeps : (dot : Dot) (x : Shape) → Valid x → Valid (recorded (λ splits. splits) x (insertRule dot x) .shape)
-insert-keeps dot x v =
-    ⊎-elim
-    (λ k. subst (λ u. Valid (recorded (λ (n : ℕ). n) x u .shape)) (sym (k .1)) v)
-    (λ g. subst (λ u. Valid (recorded (λ (n : ℕ). n) x u .shape)) (sym (g .3)) (inserted-valid dot x v (g .0) (g .1) (g .2)))
-    (insert-cases dot x v)
+module _ (P : Shape → Type 0) (x : Shape) (p : P x) where
+  insert-keeps : (dot : Dot) → Valid x → (Goes dot x → P (inserted dot x)) → P (recorded (λ splits. splits) x (insertRule dot x) .shape)
+  insert-keeps dot v after =
+      ⊎-elim
+      (λ k. subst (λ u. P (recorded (λ (n : ℕ). n) x u .shape)) (sym (k .1)) p)
+      (λ g. subst (λ u. P (recorded (λ (n : ℕ). n) x u .shape)) (sym (g .1)) (after (g .0)))
+      (insert-cases dot x v)
 
-remove-keeps : (dot : Dot) (x : Shape) → Valid x → Valid (recorded yesNo x (removeRule (dot .id) (dot .rect) x) .shape)
-unfolding removeRule
-remove-keeps dot x v = byBool (foundBy (dot .id) (dot .rect) x) (λ e. rw e (removed-valid (dot .id) (dot .rect) x v e)) (λ e. rw e v)
+  says-keeps : (yes? : Bool) (other : Shape) → (yes? ≡ true → P other) → P (recorded yesNo x (yesOrNo yes? other x) .shape)
+  says-keeps true other after = byBool (ltb largestCount (other .changes)) (λ e. rw e p) (λ e. rw e (after refl))
+  says-keeps false other after = p
 
-cleanup-keeps : (x : Shape) → Valid x → Valid (recorded yesNo x (cleanupRule x) .shape)
-unfolding cleanupRule
-cleanup-keeps x v = cleaned-valid x v
-
-insert-settings : (dot : Dot) (x : Shape) → Valid x → recorded (λ splits. splits) x (insertRule dot x) .shape .settings ≡ x .settings
-unfolding inserted
-insert-settings dot x v =
-    ⊎-elim
-    (λ k. ap (λ u. recorded (λ (n : ℕ). n) x u .shape .settings) (k .1))
-    (λ g. ap (λ u. recorded (λ (n : ℕ). n) x u .shape .settings) (g .3))
-    (insert-cases dot x v)
-
-remove-settings : (dot : Dot) (x : Shape) → recorded yesNo x (removeRule (dot .id) (dot .rect) x) .shape .settings ≡ x .settings
-unfolding removeRule removed
-remove-settings dot x = byBool (foundBy (dot .id) (dot .rect) x) (λ e. rw e refl) (λ e. rw e refl)
-
-cleanup-settings : (x : Shape) → recorded yesNo x (cleanupRule x) .shape .settings ≡ x .settings
-unfolding cleanupRule cleaned
-cleanup-settings x = refl
+  record-keeps : (r : Record) → Valid x → (Goes (r .dot) x → P (inserted (r .dot) x))
+      → (foundBy (r .dot .id) (r .dot .rect) x ≡ true → P (removed (r .dot .id) (r .dot .rect) x)) → P (cleaned x) → P (carryOut r x .shape)
+  unfolding carryOut removeRule cleanupRule
+  record-keeps r v put taken clean =
+      byBool (eqb (r .kind) 0)
+      (λ e. rw e (insert-keeps (r .dot) v put))
+      (λ e.
+      rw e
+      (byBool (eqb (r .kind) 1)
+      (λ f. rw f (says-keeps (foundBy (r .dot .id) (r .dot .rect) x) (removed (r .dot .id) (r .dot .rect) x) taken))
+      (λ f. rw f (byBool (eqb (r .kind) 2) (λ g. rw g (says-keeps (cleans x) (cleaned x) (λ t. clean))) (λ g. rw g p)))))
 
 pub record-valid : (r : Record) (x : Shape) → Valid x → Valid (carryOut r x .shape)
-unfolding carryOut
 record-valid r x v =
-    byBool (eqb (r .kind) 0)
-    (λ e. rw e (insert-keeps (r .dot) x v))
-    (λ e.
-    rw e
-    (byBool (eqb (r .kind) 1)
-    (λ f. rw f (remove-keeps (r .dot) x v))
-    (λ f. rw f (byBool (eqb (r .kind) 2) (λ g. rw g (cleanup-keeps x v)) (λ g. rw g v)))))
+    record-keeps Valid x v r v (λ g. inserted-valid (r .dot) x v (g .0) (g .1) (g .2)) (removed-valid (r .dot .id) (r .dot .rect) x v) (cleaned-valid x v)
 
 -- a record keeps the settings
 pub record-settings : (r : Record) (x : Shape) → Valid x → carryOut r x .shape .settings ≡ x .settings
-unfolding carryOut
-record-settings r x v =
-    byBool (eqb (r .kind) 0)
-    (λ e. rw e (insert-settings (r .dot) x v))
-    (λ e.
-    rw e
-    (byBool (eqb (r .kind) 1)
-    (λ f. rw f (remove-settings (r .dot) x))
-    (λ f. rw f (byBool (eqb (r .kind) 2) (λ g. rw g (cleanup-settings x)) (λ g. rw g refl)))))
+unfolding inserted removed cleaned
+record-settings r x v = record-keeps (λ y. y .settings ≡ x .settings) x refl r v (λ g. refl) (λ e. refl) refl
 
 pub batch-valid : (rs : List Record) (x : Shape) → Valid x → Valid (batchShape rs x)
 batch-valid [] x v = v

@@ -23,7 +23,7 @@ use Rattle.model.specs.Dots.{isHit}
 use Rattle.model.specs.Trees.{Placed, Tree, sumDots, dots}
 use Rattle.model.specs.Laws.Trees.{sumDots-dots}
 use Rattle.model.specs.Patch.{patchDots}
-use Rattle.model.specs.Book.{Event, insert, remove, cleanup, query, patch, accepted, saidYes, without, entered, bookAfter, Has, Live, meeting}
+use Rattle.model.specs.Book.{Event, insert, remove, cleanup, query, patch, ask, place, accepted, saidYes, without, entered, bookAfter, Has, Live, meeting}
 use Rattle.model.specs.Laws.Dots.{onDot, idIs, dotIs, sameRect-same}
 
 -- h, but 0 at the id k
@@ -110,6 +110,8 @@ toldOf (remove id r reply) = taken id (saidYes reply)
 toldOf (cleanup reply) = nothing
 toldOf (query q row row′ reply) = nothing
 toldOf (patch p reply) = tinted p (accepted reply)
+toldOf (ask dot reply) = nothing
+toldOf (place t reply) = put (t .dot) (accepted reply)
 
 abbrev heard : List Dot → Told → List Dot
 heard b (put dot yes?) = cond yes? (dot ∷ b) b
@@ -123,6 +125,8 @@ entered-told b (remove id r reply) = refl
 entered-told b (cleanup reply) = refl
 entered-told b (query q row row′ reply) = refl
 entered-told b (patch p reply) = refl
+entered-told b (ask dot reply) = refl
+entered-told b (place t reply) = refl
 
 -- two lists of events that tell the book the same give the same book
 pub book-told : (es fs : List Event) (b : List Dot) → map toldOf es ≡ map toldOf fs → bookAfter b es ≡ bookAfter b fs

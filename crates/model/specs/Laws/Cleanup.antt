@@ -74,6 +74,10 @@ pub tidy-suc : (n : ℕ) (t : Tree) → Tidy n t → Tidy (suc n) t
 tidy-suc n (leaf c) s = tt
 tidy-suc n (branch g f) s = (λ z. shallow-le n (suc n) (branch g f) (omega arith) (s .0 z), λ i b. tidy-suc n (f i) (s .1 i b))
 
+pub tidy-any : (n : ℕ) (t : Tree) → Tidy 0 t → Tidy n t
+tidy-any zero t s = s
+tidy-any (suc n) t s = tidy-suc n t (tidy-any n t s)
+
 pub shallow-tidy : (n : ℕ) (t : Tree) → Shallow n t → Tidy n t
 shallow-tidy n (leaf c) s = tt
 shallow-tidy zero (branch g f) s = absurd s

@@ -1,6 +1,6 @@
 -- The conditions of §12.6 and §12.10, both ways round: what a list must be, and nothing else.
---     fine-exactly     an event is fine exactly if it is no accepted insert of an id then live, and no accepted patch with a dot of such an id
---     still-exactly    an event is still exactly if it is no accepted insert, no remove that said yes, and no patch that laid a dot
+--     fine-exactly     an event is fine exactly if it is no accepted insert or placing of an id then live, and no accepted patch with a dot of such an id
+--     still-exactly    an event is still exactly if it is no accepted insert or placing, no remove that said yes, and no patch that laid a dot
 --     distinct-exactly, quiet-exactly      a list, by each of its events
 use mathlib.Core.Path.{_≡_, refl, ap, sym, subst}
 use mathlib.Core.Logic.{_↔_}
@@ -11,10 +11,11 @@ use native.Mathlib.Omega.{arith}
 use Rattle.arithmetic.specs.Laws.Tests.{true-false}
 use Rattle.geometry.specs.declared.aabb.AABB.{AABB}
 use Rattle.model.specs.declared.Dot.{Dot}
+use Rattle.model.specs.declared.Ticket.{Ticket}
 use Rattle.model.specs.declared.patch.Patch.{Patch}
 use Rattle.model.specs.Patch.{patchDots}
 use Rattle.model.specs.Calls.{refused, tooMany, answered}
-use Rattle.model.specs.Book.{Event, insert, remove, cleanup, query, patch, entered, bookAfter, book}
+use Rattle.model.specs.Book.{Event, insert, remove, cleanup, query, patch, ask, place, entered, bookAfter, book}
 use Rattle.model.specs.Book.{Has, Live, Fine, DistinctFrom, Distinct, Still, Quiet}
 
 -- two constructors are never equal
@@ -23,10 +24,11 @@ no z = absurd (omega arith)
 
 -- ---- one event
 
--- e is no accepted insert of a live id, and no accepted patch with a dot of a live id
+-- e is no accepted insert or placing of a live id, and no accepted patch with a dot of a live id
 abbrev pub NoneLive : List Dot → Event → Type 0
 NoneLive b e =
     ((dot : Dot) (n : ℕ) → e ≡ insert dot (answered n) → ¬ Live (dot .id) b)
+    × ((t : Ticket) (n : ℕ) → e ≡ place t (answered n) → ¬ Live (t .dot .id) b)
     × ((p : Patch) (n : ℕ) → e ≡ patch p (answered n) → (d : Dot) → Has d (patchDots p) → ¬ Live (d .id) b)
 
 fine-if : (b : List Dot) (e : Event) → NoneLive b e → Fine b e
@@ -36,17 +38,23 @@ fine-if b (insert dot (tooMany k)) f = λ a. true-false (sym a)
 fine-if b (remove id r reply) f = tt
 fine-if b (cleanup reply) f = tt
 fine-if b (query q row row′ reply) f = tt
-fine-if b (patch p (answered n)) f = λ a. f .1 p n refl
+fine-if b (ask dot reply) f = tt
+fine-if b (place t (answered n)) f = λ a. f .1 t n refl
+fine-if b (place t (refused k)) f = λ a. true-false (sym a)
+fine-if b (place t (tooMany k)) f = λ a. true-false (sym a)
+fine-if b (patch p (answered n)) f = λ a. f .2 p n refl
 fine-if b (patch p (refused k)) f = λ a. true-false (sym a)
 fine-if b (patch p (tooMany k)) f = λ a. true-false (sym a)
 
 pub fine-exactly : (b : List Dot) (e : Event) → Fine b e ↔ NoneLive b e
-fine-exactly b e = ((λ f. ((λ dot n s. subst (Fine b) s f refl), λ p n s. subst (Fine b) s f refl)), fine-if b e)
+fine-exactly b e =
+    ((λ f. ((λ dot n s. subst (Fine b) s f refl), (λ t n s. subst (Fine b) s f refl), λ p n s. subst (Fine b) s f refl)), fine-if b e)
 
--- e is no accepted insert, no remove that said yes, and no patch that laid a dot
+-- e is no accepted insert or placing, no remove that said yes, and no patch that laid a dot
 abbrev pub NoChange : Event → Type 0
 NoChange e =
     ((dot : Dot) (n : ℕ) → e ≡ insert dot (answered n) → ⊥)
+    × ((t : Ticket) (n : ℕ) → e ≡ place t (answered n) → ⊥)
     × ((id : ℕ) (r : AABB) → e ≡ remove id r (answered true) → ⊥)
     × ((p : Patch) (n : ℕ) → e ≡ patch p (answered (suc n)) → ⊥)
 
@@ -54,14 +62,18 @@ still-if : (e : Event) → NoChange e → Still e
 still-if (insert dot (answered n)) f = absurd (f .0 dot n refl)
 still-if (insert dot (refused k)) f = refl
 still-if (insert dot (tooMany k)) f = refl
-still-if (remove id r (answered true)) f = absurd (f .1 id r refl)
+still-if (remove id r (answered true)) f = absurd (f .2 id r refl)
 still-if (remove id r (answered false)) f = refl
 still-if (remove id r (refused k)) f = refl
 still-if (remove id r (tooMany k)) f = refl
 still-if (cleanup reply) f = tt
 still-if (query q row row′ reply) f = tt
+still-if (ask dot reply) f = tt
+still-if (place t (answered n)) f = absurd (f .1 t n refl)
+still-if (place t (refused k)) f = refl
+still-if (place t (tooMany k)) f = refl
 still-if (patch p (answered zero)) f = refl
-still-if (patch p (answered (suc n))) f = absurd (f .2 p n refl)
+still-if (patch p (answered (suc n))) f = absurd (f .3 p n refl)
 still-if (patch p (refused k)) f = refl
 still-if (patch p (tooMany k)) f = refl
 
@@ -69,6 +81,7 @@ pub still-exactly : (e : Event) → Still e ↔ NoChange e
 still-exactly e = (
   (λ q. (
     (λ dot n s. true-false (subst Still s q)),
+    (λ t n s. true-false (subst Still s q)),
     (λ id r s. true-false (subst Still s q)),
     λ p n s. absurd (omega (arith, subst Still s q)),
   )),

@@ -1,5 +1,6 @@
 -- THE PROOF OF Demand3 (§12). Idea: along a run the memory stays a tree (`run-trace`), and every weight sums to the same over its dots and over the book
--- (`Stands .same`); so what the query, the remove and the size of the tree say, the book says. After the list, quiet calls change the tree by cleanups alone.
+-- (`Stands .same`); so what the query, the remove and the size of the tree say, the book says. After the list, quiet calls change the tree by cleanups alone,
+-- and the count of changes is at most the number of calls, so that none of them is refused 16.
 --     Stands, step-stands, trace-stands    the invariant, kept by a call and by a list of calls
 --     stands-promise, demand-3
 --     run-book     after a list the tree's dots are the book's, for every weight
@@ -7,8 +8,8 @@
 use mathlib.Core.Path.{_≡_, refl, ap, ap₂, sym, _∙_, subst}
 use mathlib.Core.Logic.{⊎-elim}
 use mathlib.Core.List.{List, [], _∷_, _++_}
-use mathlib.Core.Bool.{Bool, true, false, not, cond}
-use Prim.Native.Nat.{ℕ, zero, suc, _*_, _+_, _≤_}
+use mathlib.Core.Bool.{Bool, true, false, cond}
+use Prim.Native.Nat.{ℕ, suc, _*_, _+_, _≤_}
 use native.Mathlib.Nat.{mul-assoc}
 use native.Mathlib.Decide.{decLe}
 use native.Mathlib.Omega.{arith}
@@ -28,30 +29,30 @@ use Rattle.geometry.specs.Settings.{D}
 use Rattle.model.specs.Trees.{Placed, sumDots, dots, Shallow}
 use Rattle.model.specs.Laws.Trees.{allDots-dots, sumDots-dots, shallow-le}
 use Rattle.model.specs.Query.{hits}
-use Rattle.model.specs.Cleanup.{isZero, turned}
 use Rattle.model.specs.Remove.{removeSays, removeAt}
-use Rattle.model.specs.Shapes.{Shape, Valid, fresh, removed, foundBy, cleaned, cleans, listed, opensFor, root}
+use Rattle.model.specs.Shapes.{Shape, Valid, fresh, removed, foundBy, cleaned, listed, opensFor, root}
 use Rattle.model.specs.Layout.{World, groupsOf, placesOf, Holds}
 use Rattle.model.specs.declared.answers.Found.{Found}
-use Rattle.model.specs.Calls.{Reply, refused, tooMany, answered, Make, Cleanup, Query}
+use Rattle.model.specs.Calls.{Reply, refused, tooMany, answered, largestCount, Make, Remove, Cleanup, Query}
 use Rattle.model.specs.Laying.{laid, CanLay}
 use Rattle.model.specs.Patch.{patchDots}
-use Rattle.model.specs.Book.{Event, insert, remove, cleanup, query, patch, Run, accepted, saidYes, without, entered, bookAfter}
+use Rattle.model.specs.Book.{Event, insert, remove, cleanup, query, patch, ask, place, Run, calls, Few, accepted, saidYes, without, entered, bookAfter}
 use Rattle.model.specs.Book.{book, Has, Live, Fine, DistinctFrom, Distinct, Quiet, cleanups, meeting, Exactly, Promise, Demand3}
 use borrow.Author.Tests.{leb-true, eq-eqb}
-use Rattle.model.specs.Laws.Query.{hits-filter, opened-le, Clean, branches-le}
-use Rattle.model.specs.Laws.Cleanup.{clean-sum, no-clean, clean-no, Tidy, tidy-suc, shallow-tidy, tidy-clean, tidy-zero, clean-tidy}
+use Rattle.model.specs.Laws.Query.{hits-filter, opened-le, branches-le}
+use Rattle.model.specs.Laws.Cleanup.{clean-sum, Tidy, tidy-suc, shallow-tidy, tidy-clean, tidy-zero, clean-tidy}
 use Rattle.model.specs.Laws.Remove.{found-gone, found-live}
 use Rattle.model.specs.Laws.Shapes.{good-inks, valid-height, shape-routed}
 use Rattle.model.specs.Laws.Book.{but, without-sum, without-le, but-tree, count-live, dead-count, has-sum, has-dot, has-hit, hit-has, meeting-le}
 use Rattle.model.specs.Laws.Dots.{onDot, idIs, dotIs}
 use Rattle.model.specs.Laws.Lists.{all-map, sumOver-zero, sum-filter}
-use Rattle.model.specs.Laws.Calls.{remove-no, remove-yes, cleanup-done, query-short, query-done}
+use Rattle.model.specs.Laws.Calls.{says-just, says-no, says-no-only, remove-says, cleanup-says, query-short, query-done}
 use Rattle.model.specs.Laws.Laying.{laid-settings, laid-sum}
 use Rattle.model.specs.Laws.Patch.{patch-once}
 use Rattle.model.specs.Laws.Effects.{Lays, Change, Trace, run-trace}
 use Rattle.model.specs.Laws.Runs.{made-holds}
-use Rattle.model.specs.Laws.Quiet.{quiet-keeps, quiet-tidy}
+use Rattle.model.specs.Laws.Counts.{few-exactly, trace-counts, trace-no-sixteen}
+use Rattle.model.specs.Laws.Quiet.{cleans-no, no-cleans, quiet-keeps, quiet-tidy}
 
 -- ---- the invariant of a run
 
@@ -89,6 +90,12 @@ laying-stands s ds b number reply x y v l once unused I =
     (λ yes. let a = ap accepted (yes .2) in rw (yes .0, a) (laid-stands s ds b x v (yes .1) once (unused a) I))
     l
 
+one-stands : (s : Settings) (b : List Dot) (dot : Dot) (number : ℕ) (reply : Reply ℕ) (x y : Shape) → Valid x → Lays x (dot ∷ []) number reply y
+    → (accepted reply ≡ true → ¬ Live (dot .id) b) → Stands s b x → Stands s (cond (accepted reply) (dot ∷ b) b) y
+one-stands s b dot number reply x y v l unused I =
+    laying-stands s (dot ∷ []) b number reply x y v l (λ k. omega (arith, indicator-le k (dot .id)))
+    (λ a d has. ⊎-elim (λ p. subst (λ (e : Dot). ¬ Live (e .id) b) p (unused a)) (λ none. absurd none) has) I
+
 removed-stands : (s : Settings) (b : List Dot) (x : Shape) (id : ℕ) (r : AABB) → Stands s b x → foundBy id r x ≡ true
     → Stands s (without id b) (removed id r x)
 unfolding removed foundBy
@@ -111,34 +118,24 @@ unfolding cleaned
 cleaned-stands s b x I = record { settings = I .settings; same = λ h. clean-sum (onDot h) (x .tree) ∙ I .same h; once = I .once }
 
 step-stands : (s : Settings) (b : List Dot) (x : Shape) (e : Event) (y : Shape) → Valid x → Change x e y → Fine b e → Stands s b x → Stands s (entered b e) y
-step-stands s b x (insert dot reply) y v c fine I =
-    laying-stands s (dot ∷ []) b _ reply x y v c (λ k. omega (arith, indicator-le k (dot .id)))
-    (λ a d has. ⊎-elim (λ p. subst (λ (e : Dot). ¬ Live (e .id) b) p (fine a)) (λ none. absurd none) has) I
+step-stands s b x (insert dot reply) y v c fine I = one-stands s b dot _ reply x y v c fine I
 step-stands s b x (remove id r reply) y v c fine I =
-    ⊎-elim (λ no. rw (no .0, ap saidYes (no .1)) I) (λ yes. rw (yes .0, ap saidYes (yes .2)) (removed-stands s b x id r I (yes .1))) c
-step-stands s b x (cleanup reply) y v c fine I = rw (c .0) (cleaned-stands s b x I)
+    ⊎-elim
+    (λ no. rw (no .0, ap saidYes (no .1)) I)
+    (⊎-elim (λ top. rw (top .0, ap saidYes (top .1)) I) (λ yes. rw (yes .0, ap saidYes (yes .1)) (removed-stands s b x id r I (yes .2))))
+    c
+step-stands s b x (cleanup reply) y v c fine I =
+    ⊎-elim (λ no. rw (no .0) I) (⊎-elim (λ top. rw (top .0) I) (λ yes. rw (yes .0) (cleaned-stands s b x I))) c
 step-stands s b x (query q row row′ reply) y v c fine I = rw c I
 step-stands s b x (patch p reply) y v c fine I = laying-stands s (patchDots p) b _ reply x y v c (patch-once p) fine I
+step-stands s b x (ask dot reply) y v c fine I = rw c I
+step-stands s b x (place t reply) y v c fine I = one-stands s b (t .dot) _ reply x y v c fine I
 
 trace-stands : (s : Settings) (b : List Dot) (x : Shape) (es : List Event) (y : Shape) → Valid x → Trace x es y → DistinctFrom b es
     → Stands s b x → Stands s (bookAfter b es) y
 trace-stands s b x [] y v t d I = subst (Stands s b) t I
 trace-stands s b x (e ∷ es) y v t d I =
     trace-stands s (entered b e) (t .0) es y (t .1 .valid) (t .2) (d .1) (step-stands s b x e (t .0) v (t .1 .change) (d .0) I)
-
--- ---- the cleanup's answer
-
-not-false : (n : ℕ) → not (isZero n) ≡ false → n ≡ 0
-not-false zero e = refl
-not-false (suc n) e = true-false e
-
-cleans-no : (x : Shape) → cleans x ≡ false → Clean (x .tree)
-unfolding cleans
-cleans-no x e = no-clean (x .tree) (not-false (turned (x .tree)) e)
-
-no-cleans : (x : Shape) → Clean (x .tree) → cleans x ≡ false
-unfolding cleans
-no-cleans x c = ap (λ (n : ℕ). not (isZero n)) (clean-no (x .tree) c)
 
 -- ---- what a shape says of its book
 
@@ -215,15 +212,16 @@ module _ (s : Settings) (w : World) (b : List Dot) (x : Shape) (h : Holds w x) (
       let front : take (length found) row′ ≡ found = ap (take (length found)) (d .2) ∙ take-append-seam found (drop (length found) row) in
       (record { hits = length found; opened = opensFor (q .rect) x }, d .1, subst (Exactly q b) (sym front) (stands-exactly s b x (h .valid) I q)))
 
-  -- after D cleanups no branch is left that holds no dot
+  -- after D cleanups, of which none is refused, no branch is left that holds no dot
   stands-cleanups : (es : List Event) (v w′ : World) (reply : Reply Bool) → Run w es v → Quiet es → D s ≤ cleanups es → Cleanup v w′ reply
-      → reply ≡ answered false
-  stands-cleanups es v w′ reply run quiet enough call =
+      → Few (x .changes + calls es) → reply ≡ answered false
+  stands-cleanups es v w′ reply run quiet enough call few =
       let high : Shallow (D s) (x .tree) = subst (λ (y : Settings). Shallow (D y) (x .tree)) (I .settings) (valid-height x (h .valid)) in
       let r = run-trace w es v x h run in
       let y = r .0 in
-      let tidy = quiet-tidy x es y (r .2) quiet (shallow-tidy (cleanups es) (x .tree) (shallow-le (D s) (cleanups es) (x .tree) enough high)) in
-      cleanup-done v w′ reply call y (r .1) .1 ∙ ap answered (no-cleans y (tidy-zero (y .tree) tidy))
+      let tidy = quiet-tidy x es y (r .2) quiet (trace-no-sixteen x es y (r .2) few)
+      (shallow-tidy (cleanups es) (x .tree) (shallow-le (D s) (cleanups es) (x .tree) enough high)) in
+      says-no-only (no-cleans y (tidy-zero (y .tree) tidy)) (cleanup-says v w′ reply call y (r .1) .2)
 
   stands-opens : (es fs : List Event) (v w′ : World) → Run w (es ++ cleanup (answered false) ∷ fs) v → Quiet es → Quiet fs
       → (q : Window) (row row′ : List ℕ) (a : Found) → Query v q row w′ row′ (answered a) → a .opened ≤ 1 + 5 * D s * length b
@@ -235,7 +233,7 @@ module _ (s : Settings) (w : World) (b : List Dot) (x : Shape) (h : Holds w x) (
       let parts = trace-append x es said z (r .2) in
       let y = parts .0 in
       let before = quiet-keeps (Stands s b) (cleaned-stands s b) x es y (parts .1) qe I in
-      let clean = cleans-no y (sym (ap saidYes (parts .2 .1 .change .1))) in
+      let clean = cleans-no y (says-no (parts .2 .1 .change)) in
       let after = quiet-keeps (λ u. Stands s b u × Tidy 0 (u .tree))
       (λ u p. (cleaned-stands s b u (p .0), tidy-clean 0 (u .tree) (tidy-suc 0 (u .tree) (p .1))))
       y said z (parts .2) (tt, qf) (before, clean-tidy (y .tree) clean) in
@@ -244,13 +242,21 @@ module _ (s : Settings) (w : World) (b : List Dot) (x : Shape) (h : Holds w x) (
       (λ e. true-false (ap accepted (query-short v q row w′ row′ (answered a) call z (r .1) e .1)))
       (λ e. let d = query-done v q row w′ row′ (answered a) call z (r .1) e in omega (arith, small, ap opensOf (d .1)))
 
-  stands-promise : Promise s w b
-  stands-promise =
+  stands-removes : (d : Dot) (w′ : World) (reply : Reply Bool) → Remove w (d .id) (d .rect) w′ reply → Has d b → x .changes + 1 ≤ largestCount
+      → reply ≡ answered true
+  unfolding removed
+  stands-removes d w′ reply call has few =
+      says-just few (remove-says w (d .id) (d .rect) w′ reply call x h .2) ∙ ap answered (has-found s b x (h .valid) I d has)
+
+  -- the count of changes is at most the number of calls
+  stands-promise : (made : ℕ) → x .changes ≤ made → Promise s made w b
+  stands-promise made slowly =
       record {
         lists = stands-lists;
-        removesLive = λ d w′ reply call has. remove-yes w (d .id) (d .rect) w′ reply call x h (has-found s b x (h .valid) I d has) .1;
-        keepsOthers = λ id r w′ reply call dead. remove-no w id r w′ reply call x h (dead-not-found s b x (h .valid) I id r dead) .1;
-        cleanupsEnd = stands-cleanups;
+        removesLive = λ d w′ reply call has few. stands-removes d w′ reply call has (few-exactly (x .changes + 1) .0 (omega (arith, slowly)));
+        keepsOthers = λ id r w′ reply call dead.
+            says-no-only (dead-not-found s b x (h .valid) I id r dead) (remove-says w id r w′ reply call x h .2);
+        cleanupsEnd = λ es v w′ reply run quiet enough call few. stands-cleanups es v w′ reply run quiet enough call (omega (arith, slowly));
         opensFew = stands-opens;
       }
 
@@ -258,14 +264,14 @@ module _ (s : Settings) (w : World) (b : List Dot) (x : Shape) (h : Holds w x) (
 
 module _ (lent : World) (s : Settings) (start : World) (m : Make lent s start (answered tt)) (es : List Event) (w : World) (run : Run start es w)
     (distinct : Distinct es) where
-  run-stands : (x : Shape) × Holds w x × Stands s (book es) x
+  run-stands : (x : Shape) × Holds w x × Stands s (book es) x × (x .changes ≤ calls es)
   unfolding fresh
   run-stands =
       let h = made-holds lent s start m in
       let x = fresh s (groupsOf lent) (placesOf lent) in
       let I : Stands s [] x = record { settings = refl; same = λ h. refl; once = λ k. omega arith } in
       let r = run-trace start es w x h run in
-      (r .0, r .1, trace-stands s [] x es (r .0) (h .valid) (r .2) distinct I)
+      (r .0, r .1, trace-stands s [] x es (r .0) (h .valid) (r .2) distinct I, omega (arith, trace-counts x es (r .0) (r .2) .slowly))
 
   -- after a list the tree's dots are the book's, for every weight
   pub run-book : (x : Shape) × Holds w x × ((h : Dot → ℕ) → sumDots (onDot h) (x .tree) ≡ sumOver h (book es))
@@ -274,7 +280,7 @@ module _ (lent : World) (s : Settings) (start : World) (m : Make lent s start (a
 -- THE THEOREM
 pub demand-3 : Demand3
 unfolding Demand3
-demand-3 lent s start m es w run d = let r = run-stands lent s start m es w run d in stands-promise s w (book es) (r .0) (r .1) (r .2)
+demand-3 lent s start m es w run d = let r = run-stands lent s start m es w run d in stands-promise s w (book es) (r .0) (r .1) (r .2) (calls es) (r .3)
 
 -- ---- the book's inks
 

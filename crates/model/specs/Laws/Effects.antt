@@ -1,31 +1,75 @@
 -- What a call of a list does to a tree, by its event: one statement for all calls, from which the laws of runs are read off.
 --     Late         not refused, or refused with a number that comes after 3
---     Lays         of a call that lays dots: it is refused, or lays them
+--     Lays, Outcome        of a call that lays dots: it is refused, or lays them; by its verdict
+--     insert-outcome, place-outcome, patch-outcome, ask-cases      the verdicts of the calls
 --     Change       the shape before, the event, the shape after
---     Effect       with it, that the shape after is valid, and the refusal late
+--     Effect       with it, that the shape after is valid, the refusal late, and 16 only where the count would pass the largest
 --     step         THE LAW: a call on a tree leaves a tree, and its effect
 --     Trace        a run, as effects on the shape
 --     run-trace    a run from a tree leaves a tree, and has a trace
-use mathlib.Core.Path.{_≡_, refl, ap, sym, subst}
+use mathlib.Core.Path.{_≡_, refl, ap, sym, _∙_, subst}
 use mathlib.Core.Logic.{_⊎_, inl, inr, ⊎-elim}
 use mathlib.Core.List.{List, [], _∷_}
-use mathlib.Core.Bool.{true, false}
-use Prim.Native.Nat.{ℕ, _≤_}
+use mathlib.Core.Bool.{Bool, false}
+use Prim.Native.Nat.{ℕ, _+_, _≤_, _<_}
 use native.Mathlib.Omega.{arith}
 use lib.ListN.{length}
-use lib.Dec.{ltb}
+use lib.Dec.{eqb, ltb}
 use Rattle.arithmetic.specs.Laws.Tests.{byBool}
 use Rattle.model.specs.declared.Dot.{Dot}
-use Rattle.model.specs.Shapes.{Shape, Valid, splitsMade, removed, foundBy, cleaned, cleans, listed}
+use Rattle.model.specs.declared.Ticket.{Ticket}
+use Rattle.model.specs.declared.patch.Patch.{Patch}
+use Rattle.model.specs.Shapes.{Shape, Valid, inserted, splitsMade, removed, foundBy, cleaned, cleans, listed}
 use Rattle.model.specs.Layout.{World, Holds}
-use Rattle.model.specs.Calls.{Reply, answered, refusal, Verdict, refuse, accept, exit, carriedOut, insertRule, Insert}
+use Rattle.model.specs.Calls.{Reply, answered, refusal, Verdict, refuse, accept, exit, carriedOut, largestCount, counted, insertRule, Insert}
 use Rattle.model.specs.Laying.{laid, CanLay}
 use Rattle.model.specs.Patch.{patchFits, patchDots, patchRule}
-use Rattle.model.specs.Book.{Event, insert, remove, cleanup, query, patch, Happens, Run, accepted}
+use Rattle.model.specs.Tickets.{askedOf, told, askRule, placeRule, Ask, Place}
+use Rattle.model.specs.Book.{Event, insert, remove, cleanup, query, patch, ask, place, Happens, Run, callsIn, accepted}
 use Rattle.model.specs.Laws.Layout.{obeys-tree}
-use Rattle.model.specs.Laws.Calls.{insert-cases, left-refused, left-accepted, remove-no, remove-yes, cleanup-done, query-short, query-done}
-use Rattle.model.specs.Laws.Laying.{can-lay-one, lay-can}
+use Rattle.model.specs.Laws.Calls.{counted-cases, Refusing, other-refusal, sixteen-refusal, Goes, insert-cases, left-refused, left-accepted}
+use Rattle.model.specs.Laws.Calls.{Says, remove-says, cleanup-says, query-short, query-done}
+use Rattle.model.specs.Laws.Laying.{can-lay-one, lay-can, laid-changes}
 use Rattle.model.specs.Laws.Patch.{patch-goes, patch-cases}
+
+-- ---- a verdict
+
+-- it refuses, or lays the dots and answers a number
+abbrev pub Outcome : Shape → List Dot → ℕ → Verdict ℕ ℕ → Type 0
+Outcome x ds number verdict =
+    ((k : ℕ) × (verdict ≡ refuse k) × Refusing k (x .changes + length ds)) ⊎ (CanLay ds x × (verdict ≡ accept (laid ds x) [] number))
+
+module _ (x : Shape) (v : Valid x) where
+  pub insert-outcome : (dot : Dot) → Outcome x (dot ∷ []) (splitsMade dot x) (insertRule dot x)
+  insert-outcome dot = ⊎-elim (λ k. inl (k .0, k .1, k .2)) (λ g. inr (can-lay-one dot x v (g .0), g .1)) (insert-cases dot x v)
+
+  pub place-outcome : (t : Ticket) → Outcome x (t .dot ∷ []) (splitsMade (t .dot) x) (placeRule t x)
+  unfolding placeRule
+  place-outcome t =
+      byBool (eqb (t .changes) (x .changes))
+      (λ e. rw e (insert-outcome (t .dot)))
+      (λ e. inl (15, rw e refl, other-refusal 15 (x .changes + 1) (omega arith) (omega arith)))
+
+  pub patch-outcome : (p : Patch) → Outcome x (patchDots p) (length (patchDots p)) (patchRule p x)
+  unfolding patchRule
+  patch-outcome p =
+      let ds = patchDots p in
+      ⊎-elim
+      (λ k. inl (14, ap counted k, other-refusal 14 (x .changes + length ds) (omega arith) (omega arith)))
+      (λ g.
+      let goes = patch-goes p x v g .0 in
+      ⊎-elim
+      (λ c. inl (16, ap counted goes ∙ c .0, sixteen-refusal (x .changes + length ds) (omega (arith, c .1, laid-changes ds x))))
+      (λ c. inr (g .can, ap counted goes ∙ c .0))
+      (counted-cases (laid ds x) [] (length ds)))
+      (patch-cases p x v)
+
+  -- an ask is refused as the insert would be, or tells
+  pub ask-cases : (dot : Dot) → ((k : ℕ) × (askRule dot x ≡ refuse k) × Refusing k (x .changes + 1))
+      ⊎ (Goes dot x × (insertRule dot x ≡ accept (inserted dot x) [] (splitsMade dot x)) × (askRule dot x ≡ accept x [] (askedOf dot x)))
+  unfolding askRule
+  ask-cases dot =
+      ⊎-elim (λ k. inl (k .0, ap (told dot x) (k .1), k .2)) (λ g. inr (g .0, g .1, ap (told dot x) (g .1))) (insert-cases dot x v)
 
 -- ---- one call
 
@@ -35,6 +79,8 @@ refusalOf (remove id r reply) = refusal reply
 refusalOf (cleanup reply) = refusal reply
 refusalOf (query q row row′ reply) = refusal reply
 refusalOf (patch p reply) = refusal reply
+refusalOf (ask dot reply) = refusal reply
+refusalOf (place t reply) = refusal reply
 
 -- not refused, or with one of the numbers that come after 3
 abbrev pub Late : ℕ → Type 0
@@ -46,69 +92,102 @@ Lays x ds number reply y = ((y ≡ x) × (accepted reply ≡ false)) ⊎ ((y ≡
 
 abbrev pub Change : Shape → Event → Shape → Type 0
 Change x (insert dot reply) y = Lays x (dot ∷ []) (splitsMade dot x) reply y
-Change x (remove id r reply) y =
-    ((y ≡ x) × (reply ≡ answered false)) ⊎ ((y ≡ removed id r x) × (foundBy id r x ≡ true) × (reply ≡ answered true))
-Change x (cleanup reply) y = (y ≡ cleaned x) × (reply ≡ answered (cleans x))
+Change x (remove id r reply) y = Says x (foundBy id r x) (removed id r x) reply y
+Change x (cleanup reply) y = Says x (cleans x) (cleaned x) reply y
 Change x (query q row row′ reply) y = y ≡ x
 Change x (patch p reply) y = Lays x (patchDots p) (length (patchDots p)) reply y
+Change x (ask dot reply) y = y ≡ x
+Change x (place t reply) y = Lays x (t .dot ∷ []) (splitsMade (t .dot) x) reply y
+
+-- of a refusal, or none: it comes after 3, and is 16 only if the count would come to `top`, past the largest
+pub record Reason (k top : ℕ) : Type 0 where
+  pub late : Late k
+  pub sixteen : k ≡ 16 → largestCount < top
 
 pub record Effect (x : Shape) (e : Event) (y : Shape) : Type 0 where
   pub valid : Valid y
   pub change : Change x e y
-  pub late : Late (refusalOf e)
+  pub reason : Reason (refusalOf e) (x .changes + callsIn e)
 
 -- ---- the law
+
+accepts : {n top : ℕ} → n ≡ 0 → Reason n top
+accepts z = record { late = inl z; sixteen = λ s. absurd (omega (arith, z, s)) }
+
+refuses : {n k top : ℕ} → n ≡ k → Refusing k top → Reason n top
+refuses e r = record { late = inr (omega (arith, e, r .late)); sixteen = λ s. r .sixteen (sym e ∙ s) }
 
 module _ (w v : World) (x : Shape) (h : Holds w x) where
   abbrev Left : Event → Type 0
   Left e = (y : Shape) × Holds v y × Effect x e y
 
-  left : (e : Event) (y : Shape) → Holds v y → Change x e y → Late (refusalOf e) → Left e
-  left e y held change late = (y, held, record { valid = held .valid; change = change; late = late })
+  left : (e : Event) (y : Shape) → Holds v y → Change x e y → Reason (refusalOf e) (x .changes + callsIn e) → Left e
+  left e y held change reason = (y, held, record { valid = held .valid; change = change; reason = reason })
 
   -- by a verdict that refuses or lays the dots
-  lays : (ds : List Dot) (number : ℕ) (reply : Reply ℕ) (verdict : Verdict ℕ ℕ) → exit v [] reply ≡ carriedOut w [] verdict
-      → ((k : ℕ) × (verdict ≡ refuse k) × (4 ≤ k)) ⊎ (CanLay ds x × (verdict ≡ accept (laid ds x) [] number))
-      → (y : Shape) × Holds v y × Lays x ds number reply y × Late (refusal reply)
+  lays : (ds : List Dot) (number : ℕ) (reply : Reply ℕ) (verdict : Verdict ℕ ℕ) → exit v [] reply ≡ carriedOut w [] verdict → Outcome x ds number verdict
+      → (y : Shape) × Holds v y × Lays x ds number reply y × Reason (refusal reply) (x .changes + length ds)
   lays ds number reply verdict given cases =
       ⊎-elim
       (λ k.
       let a = left-refused w [] v [] reply x h verdict given (k .0) (k .1) in
-      (x, a .0, inl (refl, ap accepted (a .1)), inr (omega (arith, ap refusal (a .1), k .2))))
+      (x, a .0, inl (refl, ap accepted (a .1)), refuses (ap refusal (a .1)) (k .2)))
       (λ g.
       let a = left-accepted w [] v [] reply x h verdict given (laid ds x) [] number (g .1) (lay-can ds x (h .valid) (g .0) .1) in
-      (laid ds x, a .0, inr (refl, g .0, a .1), inl (ap refusal (a .1))))
+      (laid ds x, a .0, inr (refl, g .0, a .1), accepts (ap refusal (a .1))))
       cases
 
+  -- a yes is a change
+  says : {yes? : Bool} {other y : Shape} (reply : Reply Bool) → other .changes ≡ x .changes + 1 → Says x yes? other reply y
+      → Reason (refusal reply) (x .changes + 1)
+  says reply one s =
+      ⊎-elim
+      (λ no. accepts (ap refusal (no .1)))
+      (⊎-elim
+      (λ top. refuses (ap refusal (top .1)) (sixteen-refusal (x .changes + 1) (omega (arith, top .2))))
+      (λ yes. accepts (ap refusal (yes .1))))
+      s
+
   pub step : (e : Event) → Happens w e v → Left e
-  unfolding Insert
+  unfolding Insert Ask Place removed cleaned
   step (insert dot reply) call =
       let l = lays (dot ∷ []) (splitsMade dot x) reply (insertRule dot x) (obeys-tree (insertRule dot) w [] (exit v [] reply) call x h)
-      (⊎-elim (λ k. inl (k .0, k .1, k .2)) (λ g. inr (can-lay-one dot x (h .valid) g, g .3)) (insert-cases dot x (h .valid))) in
+      (insert-outcome x (h .valid) dot) in
       left (insert dot reply) (l .0) (l .1) (l .2) (l .3)
   step (remove id r reply) call =
-      byBool (foundBy id r x)
-      (λ e. let a = remove-yes w id r v reply call x h e in left (remove id r reply) (removed id r x) (a .0) (inr (refl, e, a .1)) (inl (ap refusal (a .1))))
-      (λ e. let a = remove-no w id r v reply call x h e in left (remove id r reply) x (a .0) (inl (refl, a .1)) (inl (ap refusal (a .1))))
-  step (cleanup reply) call =
-      let a = cleanup-done w v reply call x h in left (cleanup reply) (cleaned x) (a .0) (refl, a .1) (inl (ap refusal (a .1)))
+      let s = remove-says w id r v reply call x h in left (remove id r reply) (s .0) (s .1) (s .2) (says reply refl (s .2))
+  step (cleanup reply) call = let s = cleanup-says w v reply call x h in left (cleanup reply) (s .0) (s .1) (s .2) (says reply refl (s .2))
   step (query q row row′ reply) call =
       byBool (ltb (length row) (length (listed q x)))
       (λ e.
       let a = query-short w q row v row′ reply call x h e in
-      left (query q row row′ reply) x (a .0) refl (inr (omega (arith, ap refusal (a .1)))))
-      (λ e. let a = query-done w q row v row′ reply call x h e in left (query q row row′ reply) x (a .0) refl (inl (ap refusal (a .1))))
+      left (query q row row′ reply) x (a .0) refl (refuses (ap refusal (a .1)) (other-refusal 8 (x .changes + 1) (omega arith) (omega arith))))
+      (λ e. let a = query-done w q row v row′ reply call x h e in left (query q row row′ reply) x (a .0) refl (accepts (ap refusal (a .1))))
   step (patch p reply) call =
       byBool (patchFits p)
       (λ e.
       let ds = patchDots p in
       let l = lays ds (length ds) reply (patchRule p x) (obeys-tree (patchRule p) w [] (exit v [] reply) (call .goodPatch e) x h)
-      (⊎-elim (λ k. inl (14, k, omega arith)) (λ g. inr (g .can, patch-goes p x (h .valid) g .0)) (patch-cases p x (h .valid))) in
+      (patch-outcome x (h .valid) p) in
       left (patch p reply) (l .0) (l .1) (l .2) (l .3))
       (λ e.
       let a = call .badPatch e in
       left (patch p reply) x (subst (λ (u : World). Holds u x) (sym (a .0)) h) (inl (refl, ap accepted (a .1)))
-      (inr (omega (arith, ap refusal (a .1)))))
+      (refuses (ap refusal (a .1)) (other-refusal 13 (x .changes + length (patchDots p)) (omega arith) (omega arith))))
+  step (ask dot reply) call =
+      let given = obeys-tree (askRule dot) w [] (exit v [] reply) call x h in
+      ⊎-elim
+      (λ k.
+      let a = left-refused w [] v [] reply x h (askRule dot x) given (k .0) (k .1) in
+      left (ask dot reply) x (a .0) refl (refuses (ap refusal (a .1)) (k .2)))
+      (λ g.
+      let a = left-accepted w [] v [] reply x h (askRule dot x) given x [] (askedOf dot x) (g .2) (h .valid) in
+      left (ask dot reply) x (a .0) refl (accepts (ap refusal (a .1))))
+      (ask-cases x (h .valid) dot)
+  step (place t reply) call =
+      let l = lays (t .dot ∷ []) (splitsMade (t .dot) x) reply (placeRule t x) (obeys-tree (placeRule t) w [] (exit v [] reply) call x h)
+      (place-outcome x (h .valid) t) in
+      left (place t reply) (l .0) (l .1) (l .2) (l .3)
 
 -- ---- a run
 

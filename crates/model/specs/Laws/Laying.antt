@@ -2,7 +2,7 @@
 --     can-lay-first        what can be laid: its first dot is inserted, and the others can be laid after it
 --     can-lay-one  an insert that goes is a list of one
 --     lay-can, lay-cases   a list that can be laid is laid; any other is refused
---     laid-settings, laid-sum      what is kept, and what comes to it
+--     laid-settings, laid-changes, laid-sum        what is kept, and what comes to it
 --     laid-append, can-lay-append  a list laid in two parts
 use mathlib.Core.Path.{_≡_, refl, ap, sym, _∙_, subst}
 use mathlib.Core.Logic.{_⊎_, inl, inr, ⊎-elim}
@@ -24,20 +24,20 @@ use Rattle.model.specs.Lists.{All}
 use Rattle.model.specs.Dots.{goodInk, acceptableDot}
 use Rattle.model.specs.Trees.{size, sumDots}
 use Rattle.model.specs.Shapes.{Shape, Valid, root, placedIn, inserted, splitsMade, splitsNeeded}
-use Rattle.model.specs.Calls.{refuse, accept, insertRule}
+use Rattle.model.specs.Calls.{refuse, accept, insertVerdict}
 use Rattle.model.specs.Laying.{laid, layAll, dotRects, splitsOfAll, CanLay}
 use Rattle.model.specs.Laws.Dots.{onDot}
 use Rattle.model.specs.Laws.Insert.{insert-sum, split-count-le}
 use Rattle.model.specs.Laws.Shapes.{live-and-free, valid-height, inserted-valid}
 use Rattle.model.specs.Laws.Splitting.{needed-count, made-needed}
-use Rattle.model.specs.Laws.Calls.{Goes, insert-cases}
+use Rattle.model.specs.Laws.Calls.{Goes, verdict-cases}
 use Rattle.model.specs.Laws.LayingSplits.{insert-splits-for, splits-for-none}
 
 -- ---- one dot of a list
 
 insert-goes : (dot : Dot) (x : Shape) → acceptableDot (x .settings) dot ≡ true → size (x .tree) < x .places
-    → splitsNeeded dot x ≤ length (x .freeGroups) → insertRule dot x ≡ accept (inserted dot x) [] (splitsMade dot x)
-unfolding insertRule acceptable acceptableDot
+    → splitsNeeded dot x ≤ length (x .freeGroups) → insertVerdict dot x ≡ accept (inserted dot x) [] (splitsMade dot x)
+unfolding insertVerdict acceptable acceptableDot
 insert-goes dot x ok room enough =
     let r = dot .rect in
     let both = and-t (not (inverted r || farOut r) && contains (rootOf (x .settings)) r) (goodInk dot) ok in
@@ -89,7 +89,7 @@ splits-first d ds x =
 
 -- what can be laid: its first dot is inserted, and the others can be laid after it
 pub record FirstLaid (d : Dot) (ds : List Dot) (x : Shape) : Type 0 where
-  pub goes : insertRule d x ≡ accept (inserted d x) [] (splitsMade d x)
+  pub goes : insertVerdict d x ≡ accept (inserted d x) [] (splitsMade d x)
   pub valid : Valid (inserted d x)
   pub others : CanLay ds (inserted d x)
 
@@ -143,7 +143,7 @@ lay-cases (d ∷ ds) x v =
     (λ k. inl (k .0, rw (g .3, k .1) refl))
     (λ can. inr (can-lay-more d ds x v g can))
     (lay-cases ds (inserted d x) (inserted-valid d x v (g .0) (g .1) (g .2))))
-    (insert-cases d x v)
+    (verdict-cases d x v)
 
 -- ---- what is laid
 
@@ -151,6 +151,12 @@ pub laid-settings : (ds : List Dot) (x : Shape) → laid ds x .settings ≡ x .s
 unfolding inserted
 laid-settings [] x = refl
 laid-settings (d ∷ ds) x = laid-settings ds (inserted d x)
+
+-- each is a change
+pub laid-changes : (ds : List Dot) (x : Shape) → laid ds x .changes ≡ x .changes + length ds
+unfolding inserted
+laid-changes [] x = omega arith
+laid-changes (d ∷ ds) x = omega (arith, laid-changes ds (inserted d x))
 
 -- the tree's dots are those that it had and those laid, for every weight
 pub laid-sum : (ds : List Dot) (x : Shape) → Valid x → CanLay ds x → (h : Dot → ℕ)

@@ -15,7 +15,8 @@ use Rattle.model.specs.Laws.Lists.{length-joinBelow}
 use Rattle.arithmetic.specs.Laws.Tests.{byBool}
 use Rattle.geometry.specs.Settings.{inRange}
 use Rattle.model.specs.Shapes.{Shape, Valid}
-use Rattle.model.specs.Layout.{dotsFor, World, groupsOf, placesOf, nodesRight, dotsRight, marksRight, lengthsRight, NodeEntry, PlaceEntry}
+use Rattle.model.specs.declared.State.{State}
+use Rattle.model.specs.Layout.{sameSettings, dotsFor, World, groupsOf, placesOf, nodesRight, dotsRight, marksRight, lengthsRight, NodeEntry, PlaceEntry}
 use Rattle.model.specs.Layout.{nodeEntries, placeEntries, nodeWords, dotWords, placeRect, stateOf, layout, cleared, Holds}
 use Rattle.model.specs.Calls.{Verdict, Exit, carriedOut, Obeys}
 
@@ -96,6 +97,15 @@ holds-lengths w x h = right x w (h .valid) (holds-all w x h)
 pub holds-settings : (w : World) (x : Shape) → Holds w x → w .state .settings ≡ x .settings
 unfolding cleared layout stateOf
 holds-settings w x h = ap (λ (v : World). v .state .settings) (h .words)
+
+-- a state whose settings are kept
+pub same-settings : (s t : State) → t .settings ≡ s .settings → t ≡ sameSettings s t
+same-settings s t e =
+    λ i. record { settings = e i; «free_group» = t .«free_group»; «free_place» = t .«free_place»; live = t .live; changes = t .changes }
+
+pub holds-changes : (w : World) (x : Shape) → Holds w x → w .state .changes ≡ x .changes
+unfolding cleared layout stateOf
+holds-changes w x h = ap (λ (v : World). v .state .changes) (h .words)
 
 -- ---- a tree again
 

@@ -190,6 +190,7 @@ module _ (x : Shape) (v : Valid x) where
         places = chain-of m (map blank (x .freePlaces)) (p .1);
         settings = refl;
         live = refl;
+        changes = refl;
       }
 
 -- A world that holds x, read word by word, has the shape x.
@@ -210,6 +211,7 @@ holds-represented w x h =
       places = subst₂ (λ (m : Mem) (t : State). Chained m (t .«free_place») (map blank (x .freePlaces)) none) (sym e) (sym s) (r .places);
       settings = ap (λ (t : State). t .settings) s ∙ r .settings;
       live = ap (λ (t : State). t .live) s ∙ r .live;
+      changes = ap (λ (t : State). t .changes) s ∙ r .changes;
     }
 
 -- ---- the relation fixes every word
@@ -284,12 +286,13 @@ represented-holds w x v r =
     let marks : replicate {A = ℕ} (length (w .marks)) 0 ≡ replicate (x .places + x .groups) 0 = ap (λ (n : ℕ). replicate {A = ℕ} n 0) (r .marks) in
     let settings = r .settings in
     let live = r .live in
+    let changes = r .changes in
     let groupHead = g .0 in
     let placeHead = c .0 in
     record {
       valid = v;
       words = λ i. record {
-        state = record { settings = settings i; «free_group» = groupHead i; «free_place» = placeHead i; live = live i };
+        state = record { settings = settings i; «free_group» = groupHead i; «free_place» = placeHead i; live = live i; changes = changes i };
         nodes = nodes i;
         dots = dots i;
         rects = rects i;

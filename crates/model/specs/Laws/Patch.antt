@@ -26,7 +26,7 @@ use Rattle.model.specs.Shapes.{Shape, Valid, below}
 use Rattle.model.specs.Calls.{refuse, accept}
 use Rattle.model.specs.Thresholds.{thresholds, thresholdAt, countBefore}
 use Rattle.model.specs.Laying.{laid, dotRects}
-use Rattle.model.specs.Patch.{unitRect, hasDot, rectsAt, patchRects, numbered, patchDots, idsFit, patchRule, PatchGoes}
+use Rattle.model.specs.Patch.{unitRect, hasDot, rectsAt, patchRects, numbered, patchDots, idsFit, patchVerdict, PatchGoes}
 use Rattle.model.specs.Laws.Sums.{indicator-other, indicator-le, byDec, sumOver-one, sumBelow-ext}
 use Rattle.model.specs.Laws.Lists.{sumOver-joinBelow}
 use Rattle.model.specs.Laws.Dots.{idIs}
@@ -122,16 +122,16 @@ pub patch-once : (p : Patch) (k : ℕ) → sumOver (idIs k) (patchDots p) ≤ 1
 unfolding patchDots
 patch-once p k = numbered-once (p .«first_id») (patchRects p) k
 
--- ---- the rule
+-- ---- the rule, whatever the count of changes
 
 module _ (p : Patch) (x : Shape) (v : Valid x) where
-  pub patch-goes : PatchGoes p x → (patchRule p x ≡ accept (laid (patchDots p) x) [] (length (patchDots p))) × Valid (laid (patchDots p) x)
-  unfolding patchRule
+  pub patch-goes : PatchGoes p x → (patchVerdict p x ≡ accept (laid (patchDots p) x) [] (length (patchDots p))) × Valid (laid (patchDots p) x)
+  unfolding patchVerdict
   patch-goes g = let lay = lay-can (patchDots p) x v (g .can) in (rw (g .ids, lay .0) refl, lay .1)
 
   -- it is laid whole, or nothing is laid
-  pub patch-cases : (patchRule p x ≡ refuse 14) ⊎ PatchGoes p x
-  unfolding patchRule
+  pub patch-cases : (patchVerdict p x ≡ refuse 14) ⊎ PatchGoes p x
+  unfolding patchVerdict
   patch-cases =
       byBool (idsFit (patchDots p))
       (λ e. ⊎-elim (λ k. inl (rw (e, k .1) refl)) (λ can. inr (record { ids = e; can = can })) (lay-cases (patchDots p) x v))

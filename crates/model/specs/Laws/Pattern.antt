@@ -112,7 +112,17 @@ holds-one w x y hx hy =
     omega (arith, length-blank (x .freePlaces), length-blank (y .freePlaces), live-and-free x vx, live-and-free y vy, places, ap size tree) in
     let blanks = one-chain m (w .state .«free_place») (map blank (x .freePlaces)) (map blank (y .freePlaces)) equal (r .places) (s .places) in
     let freePlaces = sym (places-back (x .freePlaces)) ∙ ap (map (λ d. d .place)) blanks ∙ places-back (y .freePlaces) in
-    λ i. record { settings = settings i; groups = groups i; places = places i; tree = tree i; freeGroups = freeGroups i; freePlaces = freePlaces i }
+    let changes : x .changes ≡ y .changes = sym (r .changes) ∙ s .changes in
+    λ i.
+    record {
+      settings = settings i;
+      groups = groups i;
+      places = places i;
+      tree = tree i;
+      freeGroups = freeGroups i;
+      freePlaces = freePlaces i;
+      changes = changes i;
+    }
 
 -- ---- the pattern
 

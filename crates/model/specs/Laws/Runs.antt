@@ -6,7 +6,7 @@
 use mathlib.Core.Path.{_≡_, refl, ap, ap₂, sym, _∙_, subst}
 use mathlib.Core.Logic.{⊎-elim}
 use mathlib.Core.List.{List, [], _∷_, map}
-use mathlib.Core.Bool.{true, cond}
+use mathlib.Core.Bool.{Bool, true, false, cond}
 use Prim.Native.Nat.{ℕ}
 use lib.ListN.{length}
 use lib.Dec.{ltb}
@@ -16,18 +16,21 @@ use Rattle.arithmetic.specs.Laws.Tests.{byBool, true-false}
 use Rattle.geometry.specs.Settings.{inRange}
 use Rattle.model.specs.declared.Dot.{Dot}
 use Rattle.model.specs.declared.Window.{Window}
+use Rattle.model.specs.declared.Ticket.{Ticket}
 use Rattle.model.specs.declared.patch.Patch.{Patch}
-use Rattle.model.specs.Shapes.{Shape, Valid, fresh, foundBy, listed}
+use Rattle.model.specs.Shapes.{Shape, Valid, fresh, removed, foundBy, cleaned, cleans, listed}
 use Rattle.model.specs.Layout.{World, groupsOf, placesOf, lengthsRight, layout, cleared, Holds}
-use Rattle.model.specs.Calls.{refused, answered, Verdict, refuse, overflow, accept, exit, carriedOut, Obeys}
+use Rattle.model.specs.Calls.{refused, answered, Verdict, refuse, overflow, accept, exit, carriedOut, Obeys, yesOrNo}
 use Rattle.model.specs.Calls.{insertRule, removeRule, cleanupRule, queryRule, Make, Insert, Remove, Cleanup, Query}
-use Rattle.model.specs.Patch.{patchFits, patchRule}
-use Rattle.model.specs.Book.{Event, insert, remove, cleanup, query, patch, Happens, Run, accepted}
-use Rattle.model.specs.Laws.Shapes.{fresh-valid, inserted-valid, removed-valid, cleaned-valid}
+use Rattle.model.specs.Patch.{patchFits, patchDots, patchRule}
+use Rattle.model.specs.Tickets.{askRule, placeRule, Ask, Place}
+use Rattle.model.specs.Book.{Event, insert, remove, cleanup, query, patch, ask, place, Happens, Run, accepted}
+use Rattle.model.specs.Laws.Shapes.{fresh-valid, removed-valid, cleaned-valid}
 use Rattle.model.specs.Laws.Layout.{right-fits, layout-holds, cleared-holds, holds-lengths, holds-settings}
 use Rattle.model.specs.Laws.Pattern.{by-tree, by-good-patch, by-bad-patch}
-use Rattle.model.specs.Laws.Calls.{insert-cases}
-use Rattle.model.specs.Laws.Patch.{patch-goes, patch-cases}
+use Rattle.model.specs.Laws.Calls.{counted-cases}
+use Rattle.model.specs.Laws.Laying.{lay-can}
+use Rattle.model.specs.Laws.Effects.{Outcome, insert-outcome, place-outcome, patch-outcome, ask-cases}
 
 pub made-holds : (lent : World) (s : Settings) (start : World) → Make lent s start (answered tt) → Holds start (fresh s (groupsOf lent) (placesOf lent))
 made-holds lent s start m =
@@ -47,6 +50,8 @@ pub data Call : Type 0 where
   toCleanUp : Call
   toQuery : Window → List ℕ → Call
   toPatch : Patch → Call
+  toAsk : Dot → Call
+  toPlace : Ticket → Call
 
 abbrev pub callOf : Event → Call
 callOf (insert dot reply) = toInsert dot
@@ -54,6 +59,8 @@ callOf (remove id r reply) = toRemove id r
 callOf (cleanup reply) = toCleanUp
 callOf (query q row row′ reply) = toQuery q row
 callOf (patch p reply) = toPatch p
+callOf (ask dot reply) = toAsk dot
+callOf (place t reply) = toPlace t
 
 -- the shape after a verdict
 abbrev after : {B A : Type 0} → Shape → Verdict B A → Shape
@@ -68,6 +75,8 @@ eventOn x (toRemove id r) = remove id r (carriedOut (layout x) [] (removeRule id
 eventOn x toCleanUp = cleanup (carriedOut (layout x) [] (cleanupRule x) .reply)
 eventOn x (toQuery q row) = let e = carriedOut (layout x) row (queryRule q (length row) x) in query q row (e .row) (e .reply)
 eventOn x (toPatch p) = patch p (cond (patchFits p) (carriedOut (layout x) [] (patchRule p x) .reply) (refused 13))
+eventOn x (toAsk dot) = ask dot (carriedOut (layout x) [] (askRule dot x) .reply)
+eventOn x (toPlace t) = place t (carriedOut (layout x) [] (placeRule t x) .reply)
 
 abbrev pub shapeOn : Shape → Call → Shape
 shapeOn x (toInsert dot) = after x (insertRule dot x)
@@ -75,6 +84,8 @@ shapeOn x (toRemove id r) = after x (removeRule id r x)
 shapeOn x toCleanUp = after x (cleanupRule x)
 shapeOn x (toQuery q row) = after x (queryRule q (length row) x)
 shapeOn x (toPatch p) = cond (patchFits p) (after x (patchRule p x)) x
+shapeOn x (toAsk dot) = after x (askRule dot x)
+shapeOn x (toPlace t) = after x (placeRule t x)
 
 abbrev pub eventsOn : Shape → List Call → List Event
 eventsOn x [] = []
@@ -102,32 +113,35 @@ module _ (w : World) (x : Shape) (h : Holds w x) where
       let t = on-tree rule [] (rule x) refl (good .0) in
       (t .0, subst (λ row. Obeys true rule w [] (exit (t .0) row (carriedOut (layout x) [] (rule x) .reply))) (good .1) (t .1), t .2)
 
+  -- its verdict leaves a valid shape, and writes no row
+  abbrev Tame : {A : Type 0} → Verdict ℕ A → Type 0
+  Tame verdict = Valid (after x verdict) × (carriedOut (layout x) [] verdict .row ≡ [])
+
+  lays-tame : (ds : List Dot) {number : ℕ} (verdict : Verdict ℕ ℕ) → Outcome x ds number verdict → Tame verdict
+  lays-tame ds verdict o = ⊎-elim (λ k. rw (k .1) (h .valid, refl)) (λ g. rw (g .1) (lay-can ds x (h .valid) (g .0) .1, refl)) o
+
+  says-tame : (yes? : Bool) (other : Shape) → (yes? ≡ true → Valid other) → Tame (yesOrNo yes? other x)
+  says-tame true other valid = ⊎-elim (λ c. rw (c .0) (h .valid, refl)) (λ c. rw (c .0) (valid refl, refl)) (counted-cases {B = ℕ} other [] true)
+  says-tame false other valid = (h .valid, refl)
+
   -- the event happens, and leaves the shape
   next : (c : Call) → (v : World) × Happens w (eventOn x c) v × Holds v (shapeOn x c)
-  unfolding Insert Remove removeRule Cleanup cleanupRule Query queryRule
-  next (toInsert dot) =
-      rowless (insertRule dot)
-      (⊎-elim
-      (λ k. rw (k .1) (h .valid, refl))
-      (λ g. rw (g .3) (inserted-valid dot x (h .valid) (g .0) (g .1) (g .2), refl))
-      (insert-cases dot x (h .valid)))
-  next (toRemove id r) =
-      rowless (removeRule id r)
-      (byBool (foundBy id r x) (λ e. rw e (removed-valid id r x (h .valid) e, refl)) (λ e. rw e (h .valid, refl)))
-  next toCleanUp = rowless cleanupRule (cleaned-valid x (h .valid), refl)
+  unfolding Insert Remove removeRule Cleanup cleanupRule Query queryRule Ask Place
+  next (toInsert dot) = rowless (insertRule dot) (lays-tame (dot ∷ []) (insertRule dot x) (insert-outcome x (h .valid) dot))
+  next (toRemove id r) = rowless (removeRule id r) (says-tame (foundBy id r x) (removed id r x) (removed-valid id r x (h .valid)))
+  next toCleanUp = rowless cleanupRule (says-tame (cleans x) (cleaned x) (λ e. cleaned-valid x (h .valid)))
   next (toQuery q row) =
       on-tree (queryRule q (length row)) row (queryRule q (length row) x) refl
       (byBool (ltb (length row) (length (listed q x))) (λ e. rw e (h .valid)) (λ e. rw e (h .valid)))
   next (toPatch p) =
       byBool (patchFits p)
       (λ e.
-      let t = rowless (patchRule p)
-      (⊎-elim
-      (λ k. rw k (h .valid, refl))
-      (λ g. let goes = patch-goes p x (h .valid) g in rw (goes .0) (goes .1, refl))
-      (patch-cases p x (h .valid))) in
+      let t = rowless (patchRule p) (lays-tame (patchDots p) (patchRule p x) (patch-outcome x (h .valid) p)) in
       rw e (t .0, by-good-patch w p (t .0) _ e (t .1), t .2))
       (λ e. rw e (w, by-bad-patch w p e, h))
+  next (toAsk dot) =
+      rowless (askRule dot) (⊎-elim (λ k. rw (k .1) (h .valid, refl)) (λ g. rw (g .2) (h .valid, refl)) (ask-cases x (h .valid) dot))
+  next (toPlace t) = rowless (placeRule t) (lays-tame (t .dot ∷ []) (placeRule t x) (place-outcome x (h .valid) t))
 
 -- the events are of those calls, in order
 event-call : (x : Shape) (c : Call) → callOf (eventOn x c) ≡ c
@@ -136,6 +150,8 @@ event-call x (toRemove id r) = refl
 event-call x toCleanUp = refl
 event-call x (toQuery q row) = refl
 event-call x (toPatch p) = refl
+event-call x (toAsk dot) = refl
+event-call x (toPlace t) = refl
 
 events-calls : (x : Shape) (cs : List Call) → map callOf (eventsOn x cs) ≡ cs
 events-calls x [] = refl

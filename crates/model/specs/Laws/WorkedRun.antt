@@ -3,8 +3,9 @@
 --     events       THE LIST, with the replies
 --     happens      it happens: the rules, computed from the fresh tree, give these replies
 --     distinct     it meets §12.6
---     promised     by Demand3: its book is the one dot that is live
+--     promised     by Demand3: it has 14 calls, and its book is the one dot that is live
 --     refused-kept     its refused insert left all as it was (§11.7)
+--     never-sixteen    no call of it is refused 16 (§12.12)
 -- From `promised` alone, of whatever is called next and whatever it leaves:
 --     lists-three      a query lists the live id (§12.7)
 --     removes-three    its remove by its rectangle says yes (§12.8)
@@ -12,7 +13,7 @@
 --     third-says-no    D is 2: a cleanup that two came before says no (§12.10)
 --     opens-few        where a cleanup has said no, a query opens at most 11 nodes (§12.11)
 use mathlib.Core.Path.{_≡_, refl, ap, sym, _∙_, subst}
-use mathlib.Core.Logic.{inl, ⊎-elim}
+use mathlib.Core.Logic.{_≢_, inl, ⊎-elim}
 use mathlib.Core.List.{List, [], _∷_, map}
 use mathlib.Core.Bool.{Bool, true, false}
 use Prim.Native.Nat.{ℕ, _≤_}
@@ -27,18 +28,21 @@ use Rattle.geometry.specs.Rectangles.{flat, intersects, middle, within, inverte
 use Rattle.geometry.specs.Settings.{axisFits, rootFits, inRange, W, bitsWithin, bitLength, halvings, D, contains}
 use Rattle.geometry.specs.Cells.{routeCell, mayDivide, rootCell, rootData, childCentre, quarterCell, childCell, childData, quadrant, bothTests, opens}
 use Rattle.model.specs.Sums.{indicator, changed, sumOver}
-use Rattle.model.specs.Lists.{count}
+use Rattle.model.specs.Lists.{count, All}
 use Rattle.model.specs.declared.Dot.{Dot}
 use Rattle.model.specs.declared.Window.{Window}
+use Rattle.model.specs.declared.Ticket.{Ticket}
 use Rattle.model.specs.declared.patch.Patch.{Patch}
 use Rattle.model.specs.declared.answers.Found.{Found}
 use Rattle.model.specs.Dots.{goodInk, shows, isHit, matches}
 use Rattle.model.specs.Shapes.{fresh, inserted, splitsMade, splitsNeeded, removed, foundBy, cleaned, cleans, listed, opensFor}
 use Rattle.model.specs.Layout.{World, lengthsRight, layout}
-use Rattle.model.specs.Calls.{Reply, refused, answered, exit, insertRule, removeRule, cleanupRule, queryRule, Make, Remove, Cleanup, Query}
+use Rattle.model.specs.Calls.{Reply, refused, answered, exit, largestCount, insertVerdict, insertRule, removeRule}
+use Rattle.model.specs.Calls.{cleanupRule, queryRule, Make, Remove, Cleanup, Query}
 use Rattle.model.specs.Thresholds.{thresholds, thresholdAt}
-use Rattle.model.specs.Patch.{patchFits, patchRects, patchDots, patchRule}
-use Rattle.model.specs.Book.{Event, insert, remove, cleanup, query, patch, Run, Has, Live, Distinct, Exactly, Promise, Demand3}
+use Rattle.model.specs.Patch.{patchFits, patchRects, patchDots, patchVerdict, patchRule}
+use Rattle.model.specs.Tickets.{askRule, placeRule}
+use Rattle.model.specs.Book.{Event, insert, remove, cleanup, query, patch, ask, place, Run, Has, Live, Distinct, Exactly, Promise, Demand3}
 use Rattle.model.specs.Trials.{settings, rect}
 use Rattle.model.specs.Laws.Sums.{indicator-same}
 use Rattle.model.specs.Laws.Book.{live-count}
@@ -46,6 +50,8 @@ use Rattle.model.specs.Laws.Dots.{idIs}
 use Rattle.model.specs.Laws.Runs.{made-holds, callOf, eventsOn, runs}
 use Rattle.model.specs.Laws.Pattern.{Untouched}
 use Rattle.model.specs.Laws.Kept.{run-kept}
+use Rattle.model.specs.Laws.Effects.{refusalOf}
+use Rattle.model.specs.Laws.Counts.{no-sixteen}
 use Rattle.model.specs.Laws.Demand.{demand-3}
 
 -- ---- the list
@@ -54,7 +60,7 @@ use Rattle.model.specs.Laws.Demand.{demand-3}
 abbrev lent : World
 lent =
     record {
-      state = record { settings = settings 1; «free_group» = 7; «free_place» = 7; live = 7 };
+      state = record { settings = settings 1; «free_group» = 7; «free_place» = 7; live = 7; changes = 7 };
       nodes = replicate 22 7;
       dots = replicate 9 7;
       rects = replicate 12 (pos 7);
@@ -88,13 +94,19 @@ window = record { rect = rect 9 9 12 12; inks = 4 }
 abbrev tile : Patch
 tile = record { x = pos 3; y = pos 3; columns = 1; rows = 1; tint = 1; «first_id» = 7 }
 
--- the second is off the film; the third splits twice; the first patch finds no place; the first remove looks in another leaf; the cleanup frees the
--- lower group
+-- handed back by an ask about the second dot, when the first had been put in
+abbrev ticket : Ticket
+ticket = record { dot = two; changes = 1 }
+
+-- the second is off the film; the placing splits twice, as was told, and the ticket is then stale; the first patch finds no place; the first remove looks
+-- in another leaf; the cleanup frees the lower group
 abbrev events : List Event
 events =
     insert one (answered 0)
     ∷ insert (dot 4 (rect 16 16 18 18) 15) (refused 5)
-    ∷ insert two (answered 2)
+    ∷ ask two (answered (record { splits = 2; ticket = ticket }))
+    ∷ place ticket (answered 2)
+    ∷ place ticket (refused 15)
     ∷ insert three (answered 0)
     ∷ patch tile (refused 14)
     ∷ remove 1 (rect 9 1 10 2) (answered false)
@@ -110,8 +122,8 @@ computed : eventsOn (fresh (settings 1) 2 3) (map callOf events) ≡ events
 unfolding flat intersects middle within inverted near farOut W bitsWithin bitLength halvings D contains
     rootCell rootData childCentre quarterCell childCell childData quadrant routeCell bothTests opens mayDivide
     fresh inserted splitsMade splitsNeeded removed foundBy cleaned cleans listed opensFor
-    insertRule removeRule cleanupRule queryRule goodInk shows bitAt isHit matches indicator changed maxZ minZ
-    patchFits patchRects patchDots patchRule thresholds thresholdAt
+    largestCount insertVerdict insertRule removeRule cleanupRule queryRule goodInk shows bitAt isHit matches indicator changed maxZ minZ
+    patchFits patchRects patchDots patchVerdict patchRule thresholds thresholdAt askRule placeRule
 computed = refl
 
 pub happens : (w : World) × Run start events w
@@ -134,10 +146,16 @@ distinct = (
   (
     (λ e. true-false (sym e)),
     (
-      (λ e. not-live 2 (one ∷ []) refl),
+      tt,
       (
-        (λ e. not-live 3 (two ∷ one ∷ []) refl),
-        ((λ e. true-false (sym e)), (tt, (tt, (tt, ((λ e. tile-new), (tt, (tt, (tt, tt)))))))),
+        (λ e. not-live 2 (one ∷ []) refl),
+        (
+          (λ e. true-false (sym e)),
+          (
+            (λ e. not-live 3 (two ∷ one ∷ []) refl),
+            ((λ e. true-false (sym e)), (tt, (tt, (tt, ((λ e. tile-new), (tt, (tt, (tt, tt)))))))),
+          ),
+        ),
       ),
     ),
   ),
@@ -159,12 +177,16 @@ module _ (q : Window) (d : Dot) where
       absurd (omega (arith, e .once k, indicator-same k, ap (indicator k) (second ∙ sym first)))
 
 module _ (w : World) (run : Run start events w) where
-  pub promised : Promise (settings 1) w (three ∷ [])
+  pub promised : Promise (settings 1) 14 w (three ∷ [])
   unfolding Demand3 patchRects patchDots thresholds thresholdAt
   promised = demand-3 lent (settings 1) start made events w run distinct
 
   pub refused-kept : Untouched {B = ℕ} {A = ℕ} (run .0) [] (exit (run .2 .0) [] (refused 5))
   refused-kept = run-kept start (fresh (settings 1) 2 3) (made-holds lent (settings 1) start made) events w run .1 .0 .untouched (omega arith)
+
+  pub never-sixteen : All (λ e. refusalOf e ≢ 16) events
+  unfolding patchRects patchDots thresholds thresholdAt
+  never-sixteen = no-sixteen lent (settings 1) start made events w run (omega arith)
 
   pub lists-three : (row row′ : List ℕ) (w′ : World) (reply : Reply Found) → length row ≡ 1 → Query w window row w′ row′ reply
       → (a : Found) × (reply ≡ answered a) × (take (a .hits) row′ ≡ 3 ∷ [])
@@ -174,7 +196,7 @@ module _ (w : World) (run : Run start events w) where
       (l .0, l .1, just-one window three refl (take (l .0 .hits) row′) (l .2))
 
   pub removes-three : (w′ : World) (reply : Reply Bool) → Remove w 3 (three .rect) w′ reply → reply ≡ answered true
-  removes-three w′ reply call = promised .removesLive three w′ reply call (inl refl)
+  removes-three w′ reply call = promised .removesLive three w′ reply call (inl refl) (omega arith)
 
   pub one-is-gone : (r : AABB) (w′ : World) (reply : Reply Bool) → Remove w 1 r w′ reply → reply ≡ answered false
   unfolding indicator
@@ -183,7 +205,7 @@ module _ (w : World) (run : Run start events w) where
   pub third-says-no : (w₁ w₂ w₃ : World) (a₁ a₂ a₃ : Reply Bool) → Cleanup w w₁ a₁ → Cleanup w₁ w₂ a₂ → Cleanup w₂ w₃ a₃ → a₃ ≡ answered false
   unfolding W bitsWithin bitLength halvings D
   third-says-no w₁ w₂ w₃ a₁ a₂ a₃ c₁ c₂ c₃ =
-      promised .cleanupsEnd (cleanup a₁ ∷ cleanup a₂ ∷ []) w₂ w₃ a₃ (w₁, c₁, (w₂, c₂, refl)) (tt, (tt, tt)) (omega arith) c₃
+      promised .cleanupsEnd (cleanup a₁ ∷ cleanup a₂ ∷ []) w₂ w₃ a₃ (w₁, c₁, (w₂, c₂, refl)) (tt, (tt, tt)) (omega arith) c₃ (omega arith)
 
   pub opens-few : (v w′ : World) → Cleanup w v (answered false)
       → (q : Window) (row row′ : List ℕ) (a : Found) → Query v q row w′ row′ (answered a) → a .opened ≤ 11

@@ -2,11 +2,11 @@
 --     make-refused, made           make
 --     insert-refused, inserted     insert
 --     remove-refused, removed, not-removed     remove
---     cleanup-refused, cleaned     cleanup
+--     cleanup-refused, cleaned, not-cleaned    cleanup
 --     query-refused, query-many, listed        query
 use mathlib.Core.Path.{_≡_, refl, subst}
 use mathlib.Core.List.{List, [], _∷_}
-use mathlib.Core.Bool.{Bool, true, false}
+use mathlib.Core.Bool.{true, false}
 use Prim.Native.Nat.{ℕ}
 use lib.IntN.{ℤ}
 use Rattle.geometry.specs.declared.aabb.AABB.{AABB}
@@ -16,19 +16,17 @@ use Rattle.model.specs.declared.Dot.{Dot}
 use Rattle.model.specs.declared.Window.{Window}
 use Rattle.model.specs.declared.State.{State}
 use Rattle.model.specs.Layout.{World, world}
-use Rattle.model.specs.Calls.{refused, tooMany, answered, yesNo, Make, Insert, Remove, Cleanup, Query}
+use Rattle.model.specs.Calls.{refused, tooMany, answered, Make, Insert, Remove, Cleanup, Query}
 use Rattle.model.specs.declared.answers.MakeAnswer.{MakeAnswer}
 use Rattle.model.specs.declared.answers.MakeAnswer.the-variants as make
 use Rattle.model.specs.declared.answers.InsertAnswer.{InsertAnswer}
 use Rattle.model.specs.declared.answers.InsertAnswer.the-variants as insert
-use Rattle.model.specs.declared.answers.RemoveAnswer.{RemoveAnswer}
-use Rattle.model.specs.declared.answers.RemoveAnswer.the-variants as remove
-use Rattle.model.specs.declared.answers.CleanupAnswer.{CleanupAnswer}
-use Rattle.model.specs.declared.answers.CleanupAnswer.the-variants as cleanup
+use Rattle.model.specs.declared.answers.YesNoAnswer.{YesNoAnswer}
+use Rattle.model.specs.declared.answers.YesNoAnswer.the-variants as said
 use Rattle.model.specs.declared.answers.Found.{Found}
 use Rattle.model.specs.declared.answers.QueryAnswer.{QueryAnswer}
 use Rattle.model.specs.declared.answers.QueryAnswer.the-variants as query
-use Rattle.model.specs.Answers.{makeState, makeReply, insertReply, insertState, removeReply, removeState, cleanupReply, cleanupState, queryReply}
+use Rattle.model.specs.Answers.{makeState, makeReply, insertReply, insertState, yesNoReply, yesNoState, queryReply}
 use Rattle.lines.specs.Text.{answer}
 use Rattle.lines.specs.Reading.{Output, output, Written}
 use Rattle.ticket.specs.declared.first.Start.the-variants as start
@@ -67,27 +65,31 @@ module _ {w : World} {nodes dots : List ℕ} {rects : List ℤ} {marks : List �
         → Written out (answer 73 (dot .id ∷ n ∷ [])) → InsertLine w dot (world s′ nodes dots rects marks) out
     inserted {n} e h l = record { reply = answered n; call = rw e at h; line = l }
 
-  module _ {id : ℕ} {r : AABB} {a : RemoveAnswer} where
-    pub remove-refused : {k : ℕ} → a ≡ remove.Refused k → Remove w id r (world (removeState s a) nodes dots rects marks) (removeReply a)
+  module _ {id : ℕ} {r : AABB} {a : YesNoAnswer} where
+    pub remove-refused : {k : ℕ} → a ≡ said.Refused k → Remove w id r (world (yesNoState s a) nodes dots rects marks) (yesNoReply a)
         → Written out (refusalLine k) → RemoveLine w id r (world s nodes dots rects marks) out
     remove-refused {k} e h l = record { reply = refused k; call = rw e at h; line = l }
 
-    pub removed : {s′ : State} → a ≡ remove.Yes s′ → Remove w id r (world (removeState s a) nodes dots rects marks) (removeReply a)
+    pub removed : {s′ : State} → a ≡ said.Yes s′ → Remove w id r (world (yesNoState s a) nodes dots rects marks) (yesNoReply a)
         → Written out (answer 68 (id ∷ 1 ∷ [])) → RemoveLine w id r (world s′ nodes dots rects marks) out
     removed e h l = record { reply = answered true; call = rw e at h; line = l }
 
-    pub not-removed : a ≡ remove.No → Remove w id r (world (removeState s a) nodes dots rects marks) (removeReply a)
+    pub not-removed : a ≡ said.No → Remove w id r (world (yesNoState s a) nodes dots rects marks) (yesNoReply a)
         → Written out (answer 68 (id ∷ 0 ∷ [])) → RemoveLine w id r (world s nodes dots rects marks) out
     not-removed e h l = record { reply = answered false; call = rw e at h; line = l }
 
-  module _ {a : CleanupAnswer} where
-    pub cleanup-refused : {k : ℕ} → a ≡ cleanup.Refused k → Cleanup w (world (cleanupState s a) nodes dots rects marks) (cleanupReply a)
+  module _ {a : YesNoAnswer} where
+    pub cleanup-refused : {k : ℕ} → a ≡ said.Refused k → Cleanup w (world (yesNoState s a) nodes dots rects marks) (yesNoReply a)
         → Written out (refusalLine k) → CleanupLine w (world s nodes dots rects marks) out
     cleanup-refused {k} e h l = record { reply = refused k; call = rw e at h; line = l }
 
-    pub cleaned : {yes? : Bool} {s′ : State} → a ≡ cleanup.Done yes? s′ → Cleanup w (world (cleanupState s a) nodes dots rects marks) (cleanupReply a)
-        → Written out (answer 67 (yesNo yes? ∷ [])) → CleanupLine w (world s′ nodes dots rects marks) out
-    cleaned {yes?} e h l = record { reply = answered yes?; call = rw e at h; line = l }
+    pub cleaned : {s′ : State} → a ≡ said.Yes s′ → Cleanup w (world (yesNoState s a) nodes dots rects marks) (yesNoReply a)
+        → Written out (answer 67 (1 ∷ [])) → CleanupLine w (world s′ nodes dots rects marks) out
+    cleaned e h l = record { reply = answered true; call = rw e at h; line = l }
+
+    pub not-cleaned : a ≡ said.No → Cleanup w (world (yesNoState s a) nodes dots rects marks) (yesNoReply a)
+        → Written out (answer 67 (0 ∷ [])) → CleanupLine w (world s nodes dots rects marks) out
+    not-cleaned e h l = record { reply = answered false; call = rw e at h; line = l }
 
 -- ---- query
 

@@ -71,6 +71,7 @@ pub record Framed (w : World) (x : Shape) : Type 0 where
   pub marks : length (w .marks) ≡ x .places + x .groups
   pub settings : w .state .settings ≡ x .settings
   pub live : w .state .live ≡ size (x .tree)
+  pub changes : w .state .changes ≡ x .changes
 
 pub stored-holds : (w : World) (x : Shape) → Valid x → Framed w x → StoredAs w x → Holds w x
 stored-holds w x v f s =
@@ -85,4 +86,5 @@ stored-holds w x v f s =
       places = s .places;
       settings = f .settings;
       live = f .live;
+      changes = f .changes;
     })

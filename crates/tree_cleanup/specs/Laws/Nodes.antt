@@ -1,6 +1,7 @@
 -- The cleanup's walk of a node: a law for each way through the code, by what the code reads.
 --     walked-in    a node that is walked is in the row
 --     empty-read   the test of a group, by the words of its five nodes
+--     group-there, group-empty     the group of a branch is in the row; the test of it says whether the five children are empty
 --     leaf-cleaned         a leaf stays
 --     branch-in, branch-first, branch-level, branch-room   a branch: its group is in the row, a level is left, one turned branch more can be counted
 --     turned-cleaned       a branch with five empty children is turned
@@ -25,7 +26,7 @@ use Rattle.memory.specs.declared.node.Node.{Node}
 use Rattle.memory.specs.Nodes.{nodeAt, emptyLeaf}
 use Rattle.memory.specs.Rows.{HasNode, setNodeAt}
 use Rattle.memory.specs.Laws.Stores.{first-set, count-set, node-length, changed-by}
-use Rattle.tree.specs.Trees.{nodeCount, nodeTotal}
+use Rattle.tree.specs.Trees.{nodeCount, nodeTotal, NodesIn}
 use Rattle.tree.specs.Cleanup.{collapse, cleanWords, TreeAndFree}
 use Rattle.tree.specs.Laws.Trees.{not-branch, is-branch, node-in-row, mark-no-leaf, shallow-branch}
 use Rattle.tree_cleanup.specs.declared.Swept.{Swept}
@@ -50,6 +51,28 @@ pub empty-read : (nodes : List ℕ) (first : ℕ) {a b c d e : Node} → a ≡ n
 unfolding emptyGroup
 empty-read nodes first p q r s t = λ i. (eqb (p i .count) 0 && eqb (q i .count) 0) && (eqb (r i .count) 0 && eqb (s i .count) 0) && eqb (t i .count) 0
 
+-- ---- the group of a branch that stands
+
+module _ (nodes dots : List ℕ) (rects : List ℤ) (a g : ℕ) (f : ℕ → Tree) (stands : Represents (read nodes dots rects) a (branch g f)) where
+  pub group-there : NodesIn nodes a (branch g f) → HasGroup nodes (firstAt nodes a)
+  group-there n = omega (arith, stands .1, node-in-row nodes (childNode g 4) (f 4) (n .1 4 (omega arith)))
+
+  child-zero : (i : ℕ) → i < 5 → eqb (countAt nodes (firstAt nodes a + i)) 0 ≡ isZero (busy (f i))
+  unfolding branchMark
+  child-zero i b =
+      let at : firstAt nodes a + i ≡ childNode g i = omega (arith, stands .1) in
+      ap (λ (p : ℕ). eqb (countAt nodes p) 0) at ∙ eqb-zero (countAt nodes (childNode g i)) ∙ go (f i) (stands .2 i b)
+    where
+      go : (t : Tree) → Represents (read nodes dots rects) (childNode g i) t → isZero (countAt nodes (childNode g i)) ≡ isZero (busy t)
+      go (leaf chain) r = ap isZero (r .0)
+      go (branch h j) r = ap isZero (r .0)
+
+  pub group-empty : emptyGroup nodes (firstAt nodes a) ≡ allEmpty f
+  unfolding emptyGroup
+  group-empty =
+      rw (child-zero 0 (omega arith), child-zero 1 (omega arith), child-zero 2 (omega arith), child-zero 3 (omega arith), child-zero 4 (omega arith))
+      (simp (zero-sum, and-assoc))
+
 -- ---- a branch whose words were read
 
 record Branch (nodes : List ℕ) (swept : Swept) (a levels : ℕ) (node : Node) (dots : List ℕ) (rects : List ℤ) (free : List ℕ) (g : ℕ) (f : ℕ → Tree)
@@ -64,7 +87,7 @@ module _ {nodes : List ℕ} {swept : Swept} {a levels : ℕ} {node : Node} {dots
   first-is = ap (λ (x : Node). x .first) (k .words) ∙ k .stands .1 .1
 
   group-in : HasGroup nodes (node .first)
-  group-in = omega (arith, first-is, node-in-row nodes (childNode g 4) (f 4) (k .fits .nodesIn .1 4 (omega arith)))
+  group-in = subst (λ (x : Node). HasGroup nodes (x .first)) (sym (k .words)) (group-there nodes dots rects a g f (k .stands .1) (k .fits .nodesIn))
 
   child-fits : (i : ℕ) → i < 5 → Fits nodes (levels - 1) (childNode g i) (f i)
   child-fits i b =
@@ -74,23 +97,8 @@ module _ {nodes : List ℕ} {swept : Swept} {a levels : ℕ} {node : Node} {dots
         few = omega (arith, k .fits .few, sumBelow-term 5 (λ j. size (f j)) i b);
       }
 
-  -- ---- the test of its group
-
-  child-zero : (i : ℕ) → i < 5 → eqb (countAt nodes (node .first + i)) 0 ≡ isZero (busy (f i))
-  unfolding branchMark
-  child-zero i b =
-      let at : node .first + i ≡ childNode g i = omega (arith, first-is) in
-      ap (λ (p : ℕ). eqb (countAt nodes p) 0) at ∙ eqb-zero (countAt nodes (childNode g i)) ∙ go (f i) (k .stands .1 .2 i b)
-    where
-      go : (t : Tree) → Represents (read nodes dots rects) (childNode g i) t → isZero (countAt nodes (childNode g i)) ≡ isZero (busy t)
-      go (leaf chain) r = ap isZero (r .0)
-      go (branch h j) r = ap isZero (r .0)
-
   empty-same : emptyGroup nodes (node .first) ≡ allEmpty f
-  unfolding emptyGroup
-  empty-same =
-      rw (child-zero 0 (omega arith), child-zero 1 (omega arith), child-zero 2 (omega arith), child-zero 3 (omega arith), child-zero 4 (omega arith))
-      (simp (zero-sum, and-assoc))
+  empty-same = ap (λ (x : Node). emptyGroup nodes (x .first)) (k .words) ∙ group-empty nodes dots rects a g f (k .stands .1)
 
   -- ---- the branch is turned
 

@@ -24,6 +24,11 @@ add-changed c =
     let start : tie.Start = search in
     omega (arith, starts-live (start .pre .starts))
 
+changed-requires : tie.Need-changed-requires
+changed-requires c κs =
+    let start : tie.Start = search in
+    start .pre .starts .counts
+
 returns : tie.Need-returns
 returns c marks x begun =
     let pushed : tie.After-push-dot = search in
@@ -38,4 +43,4 @@ insert-at-spec =
     (tie.spec
     split-down-requires (λ c. search needs)
     (λ c κs. let split : tie.After-split-down = search in push split .place) (λ c κs. let split : tie.After-split-down = search in push split)
-    add-changed (λ c κs. search needs) (λ c. search needs) (λ c. search needs) (λ c. search needs) returns)
+    add-changed changed-requires (λ c. search needs) (λ c. search needs) (λ c. search needs) returns)

@@ -54,7 +54,7 @@ module _ {s : State} {dot : Dot} {nodes dots : List ℕ} {rects : List ℤ} {l :
 
     -- the state with a head of the free places
     abbrev after : ℕ → State
-    after next = record { settings = s .settings; «free_group» = reached .group; «free_place» = next; live = s .live + 1 }
+    after next = record { settings = s .settings; «free_group» = reached .group; «free_place» = next; live = s .live + 1; changes = s .changes + 1 }
 
     inserted-holds : let p = s .«free_place» in let node = reached .node in
         Holds (world (after (nextAt dots₁ p)) (pushedNodes nodes₁ node p) (pushedDots nodes₁ dots₁ node p dot) (pushedRects rects p dot)
@@ -74,6 +74,7 @@ module _ {s : State} {dot : Dot} {nodes dots : List ℕ} {rects : List ℤ} {l :
           marks = length-replicate (length marks) 0 ∙ rep .marks;
           settings = rep .settings;
           live = omega (arith, rep .live, live);
+          changes = ap (λ (n : ℕ). n + 1) (rep .changes);
         })
         (push-stored now (begun .room))
 

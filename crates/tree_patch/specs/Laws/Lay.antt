@@ -24,17 +24,17 @@ use Rattle.model.specs.declared.patch.Patch.{Patch}
 use Rattle.model.specs.Lists.{All}
 use Rattle.model.specs.Dots.{acceptableDot}
 use Rattle.model.specs.Shapes.{Shape, inserted, splitsMade}
-use Rattle.model.specs.Layout.{world, layout, cleared, Holds, changedState}
-use Rattle.model.specs.Calls.{answered, exit, carriedOut, insertRule}
+use Rattle.model.specs.Layout.{world, layout, cleared, Holds, sameSettings}
+use Rattle.model.specs.Calls.{answered, accept, exit, carriedOut, counted, insertRule}
 use Rattle.model.specs.Answers.{insertState, insertReply}
 use Rattle.model.specs.Book.{accepted}
 use Rattle.model.specs.Laying.{laid, CanLay}
 use Rattle.model.specs.Patch.{numbered, patchDots, idsFit}
 use Rattle.model.specs.Laws.Dots.{dot-upright}
-use Rattle.model.specs.Laws.Layout.{holds-settings}
-use Rattle.model.specs.Laws.Calls.{world-of, reply-of}
+use Rattle.model.specs.Laws.Layout.{same-settings, holds-settings}
+use Rattle.model.specs.Laws.Calls.{counted-low, world-of, reply-of}
 use Rattle.model.specs.Laws.Patch.{numbered-length}
-use Rattle.model.specs.Laws.Laying.{FirstLaid, can-lay-first, can-lay-append, laid-append}
+use Rattle.model.specs.Laws.Laying.{FirstLaid, can-lay-first, can-lay-append, laid-changes, laid-append}
 use Rattle.tree.specs.Operations.{CarriedOut}
 use Rattle.tint.specs.Laws.Within.{sides}
 use Rattle.tree_patch.specs.declared.lay.Laid.{Laid}
@@ -117,6 +117,20 @@ module _ {p : Patch} {column row : ℕ} {l : Laid} {nodes dots : List ℕ} {rect
             g .valid .placesFit,
           )
 
+      -- its insert goes, and can be counted
+      inserts : insertRule dot before ≡ accept (inserted dot before) [] (splitsMade dot before)
+      unfolding insertRule inserted
+      inserts =
+          ap counted (first .goes)
+          ∙ counted-low (inserted dot before) [] (splitsMade dot before)
+          (omega (
+            arith,
+            g .counts,
+            laid-changes (dotsBefore p column row) x,
+            length-append (dotsBefore p column row) (dot ∷ parts .0),
+            ap length (parts .1),
+          ))
+
       one-more : rectsBefore p (suc column) row ≡ rectsBefore p column row ++ dot .rect ∷ []
       one-more = here-laid p column row (at .there)
 
@@ -134,13 +148,13 @@ module _ {p : Patch} {column row : ℕ} {l : Laid} {nodes dots : List ℕ} {rect
           ≡ exit (layout (inserted (dot g) (before g))) [] (answered (splitsMade (dot g) (before g)))
       left {marks} g =
           done marks (before g) (g .holds)
-          ∙ ap (carriedOut (world (l .state) nodes dots rects marks) []) (ap (λ (d : Dot). insertRule d (before g)) is ∙ first g .goes)
+          ∙ ap (carriedOut (world (l .state) nodes dots rects marks) []) (ap (λ (d : Dot). insertRule d (before g)) is ∙ inserts g)
 
       pub lay-refused : {k : ℕ} → a ≡ insert.Refused k → {marks : List ℕ} {x : Shape} → Progress p column row l nodes dots rects marks x → ⊥
       lay-refused refusal g = true-false (sym (ap accepted (reply-of (left g))) ∙ ap (λ (b : InsertAnswer). accepted (insertReply b)) refusal)
 
-      -- the settings are kept, so that the state after the insert is the one before with other heads and another live number
-      pub lay-laid : {k : ℕ} {s′ u : State} → a ≡ insert.Splits k s′ → u ≡ changedState (l .state) (s′ .«free_group») (s′ .«free_place») (s′ .live)
+      -- the settings are kept
+      pub lay-laid : {k : ℕ} {s′ u : State} → a ≡ insert.Splits k s′ → u ≡ sameSettings (l .state) s′
           → {marks : List ℕ} {x : Shape} → Progress p column row l nodes dots rects marks x
           → Progress p (suc column) row (record { state = u; number = l .number + 1 }) nodes′ dots′ rects′ marks x
       unfolding cleared inserted
@@ -154,12 +168,12 @@ module _ {p : Patch} {column row : ℕ} {l : Laid} {nodes dots : List ℕ} {rect
           let settings : s′ .settings ≡ l .state .settings =
           holds-settings (world s′ nodes′ dots′ rects′ marks) (inserted (dot g) (before g)) holds
           ∙ sym (holds-settings (world (l .state) nodes dots rects marks) (before g) (g .holds)) in
-          let same : s′ ≡ changedState (l .state) (s′ .«free_group») (s′ .«free_place») (s′ .live) =
-          λ i. record { settings = settings i; «free_group» = s′ .«free_group»; «free_place» = s′ .«free_place»; live = s′ .live } in
+          let same : s′ ≡ sameSettings (l .state) s′ = same-settings (l .state) s′ settings in
           record {
             fits = g .fits;
             valid = g .valid;
             goes = g .goes;
+            counts = g .counts;
             holds =
                 subst (λ (y : Shape). Holds (world u nodes′ dots′ rects′ marks) y) (sym (laid-next g))
                 (subst (λ (s : State). Holds (world s nodes′ dots′ rects′ marks) (inserted (dot g) (before g))) (same ∙ sym changed) holds);

@@ -27,6 +27,7 @@ moved {p} {l = l} {nodes} {dots} {rects} {marks} {x} same g =
       fits = g .fits;
       valid = g .valid;
       goes = g .goes;
+      counts = g .counts;
       holds = subst (λ (rs : List AABB). Holds (world (l .state) nodes dots rects marks) (laid (numbered (p .«first_id») rs) x)) same (g .holds);
       number = g .number ∙ ap length same;
     }

@@ -2,14 +2,15 @@
 --     leads-searchable     the chain of the leaf can be searched
 --     Looked       the leaf, its words, the dot
 --     look-takes   what the stores ask
---     look-no, look-yes    the two answers
+--     look-no, look-past, look-yes the answers, and refusal 16
 use mathlib.Core.Path.{_≡_, refl, ap, sym, _∙_, subst}
 use mathlib.Core.List.{List, [], _∷_}
-use mathlib.Core.Bool.{true, false}
-use Prim.Native.Nat.{ℕ, _-_, _≤_}
+use mathlib.Core.Bool.{Bool, true, false, not}
+use Prim.Native.Nat.{ℕ, _+_, _-_, _≤_}
 use native.Mathlib.Omega.{arith}
 use lib.IntN.{ℤ}
 use lib.ListN.{length, replicate}
+use borrow.Author.Tests.{not-true}
 use Rattle.arithmetic.specs.Laws.Tests.{byBool}
 use Rattle.geometry.specs.declared.aabb.AABB.{AABB}
 use Rattle.model.specs.declared.Dot.{Dot}
@@ -20,7 +21,9 @@ use Rattle.model.specs.Remove.{firstHas}
 use Rattle.model.specs.Shapes.{Shape, root, foundBy, removed}
 use Rattle.model.specs.Layout.{dotsFor, World, Holds, none, world}
 use Rattle.model.specs.Memory.{nextAt, firstAt, countAt}
-use Rattle.model.specs.Calls.{answered, exit, carriedOut, removeRule}
+use Rattle.model.specs.Calls.{refused, answered, accept, exit, carriedOut, counted, canCount, removeRule}
+use Rattle.model.specs.Laws.Calls.{counted-fits, counted-past}
+use Rattle.model.specs.Laws.Layout.{holds-changes}
 use Rattle.model.specs.Laws.Memory.{holds-represented}
 use Rattle.memory.specs.declared.node.Node.{Node}
 use Rattle.memory.specs.Nodes.{nodeAt}
@@ -30,7 +33,7 @@ use Rattle.tree.specs.Chains.{ChainStands}
 use Rattle.tree.specs.Routes.{leafFor, LeadsTo}
 use Rattle.tree.specs.Laws.Routes.{chainFor, says-path}
 use Rattle.tree.specs.Laws.Leaves.{here-stands, leads-leaf, here-inside}
-use Rattle.tree.specs.Laws.Operations.{same-marks, shaped-exit}
+use Rattle.tree.specs.Laws.Operations.{same-marks, refused-exit, shaped-exit}
 use Rattle.tree_remove.specs.declared.Hit.{Hit}
 use Rattle.tree_remove.specs.Search.{Linked, hitIn, Searchable, unlinkedNode, unlinkedDots}
 use Rattle.tree_remove.specs.Laws.Found.{Found, found-split, hit-absent}
@@ -103,7 +106,7 @@ module _ {s : State} {nodes dots : List ℕ} {rects : List ℤ} {marks : List �
       let count : 1 ≤ node .count = subst (λ (v : Node). 1 ≤ v .count) (sym at-words) (t .count) in
       record { unlinks = (subst (HasNode nodes) (sym at-leaf) (here-inside h r), count, t .place, t .previous); rect = t .rect; live = t .live }
 
-  -- the two answers
+  -- the answers
   pub look-no : hit .place ≡ none
       → exit (world s nodes dots rects (replicate (length marks) 0)) [] (answered false) ≡ carriedOut (world s nodes dots rects marks) [] (removeRule id r x)
   unfolding removeRule foundBy
@@ -111,13 +114,26 @@ module _ {s : State} {nodes dots : List ℕ} {rects : List ℤ} {marks : List �
       shaped-exit s nodes dots rects marks (removeRule id r x) s nodes dots rects x false (same-marks s nodes dots rects marks x h)
       (rw (says-path r id (root x) (x .tree) ∙ has-none e) refl)
 
-  pub look-yes : ¬ (hit .place ≡ none) → {s′ : State} {nodes′ dots₁ dots′ : List ℕ} {rects′ : List ℤ}
+  says-yes : ¬ (hit .place ≡ none) → removeRule id r x ≡ counted (accept (removed id r x) [] true)
+  unfolding removeRule foundBy
+  says-yes ne = rw (says-path r id (root x) (x .tree) ∙ has-found ne .0) refl
+
+  more : removed id r x .changes ≡ s .changes + 1
+  unfolding removed
+  more = ap (λ (n : ℕ). n + 1) (sym (holds-changes (world s nodes dots rects marks) x h))
+
+  pub look-past : ¬ (hit .place ≡ none) → {fits : Bool} → fits ≡ canCount s 1 → not fits ≡ true
+      → exit (world s nodes dots rects (replicate (length marks) 0)) [] (refused 16) ≡ carriedOut (world s nodes dots rects marks) [] (removeRule id r x)
+  look-past ne {fits} count n =
+      refused-exit s nodes dots rects marks (removeRule id r x) 16
+      (says-yes ne ∙ counted-past (removed id r x) [] true s 1 count more (not-true fits n))
+
+  pub look-yes : ¬ (hit .place ≡ none) → canCount s 1 ≡ true → {s′ : State} {nodes′ dots₁ dots′ : List ℕ} {rects′ : List ℤ}
       → nodes′ ≡ setNodeAt nodes (l .node) (unlinkedNode dots node hit) → dots₁ ≡ unlinkedDots dots hit
       → dots′ ≡ setNextAt (setDotAt dots₁ (hit .place) zeroDot) (hit .place) (s .«free_place») → rects′ ≡ setRectAt rects (hit .place) (zeroDot .rect)
       → s′ ≡ stateWithout s hit
       → exit (world s′ nodes′ dots′ rects′ (replicate (length marks) 0)) [] (answered true) ≡ carriedOut (world s nodes dots rects marks) [] (removeRule id r x)
-  unfolding removeRule foundBy
-  look-yes ne {s′} {nodes′} {dots₁} {dots′} {rects′} en e₁ ed er es =
+  look-yes ne fits {s′} {nodes′} {dots₁} {dots′} {rects′} en e₁ ed er es =
       let f = has-found ne in
       let b = leafFor r (root x) 0 (x .tree) .node in
       let nodesSame : nodes′ ≡ nodesWithout nodes dots b hit = en ∙ (λ i. setNodeAt nodes (at-leaf i) (unlinkedNode dots (at-words i) hit)) in
@@ -128,4 +144,4 @@ module _ {s : State} {nodes dots : List ℕ} {rects : List ℤ} {marks : List �
       let same : left ≡ world s′ nodes′ dots′ rects′ zeros = λ i. world (sym es i) (sym nodesSame i) (sym dotsSame i) (sym er i) zeros in
       shaped-exit s nodes dots rects marks (removeRule id r x) s′ nodes′ dots′ rects′ (removed id r x) true
       (subst (λ (v : World). Holds v (removed id r x)) same (removed-holds h id r hit (f .0) (f .1)))
-      (rw (says-path r id (root x) (x .tree) ∙ f .0) refl)
+      (says-yes ne ∙ counted-fits (removed id r x) [] true s 1 refl more fits)

@@ -169,5 +169,6 @@ module _ {s : State} {nodes dots : List ℕ} {rects : List ℤ} {marks : List �
         marks = length-replicate (length marks) 0 ∙ rep .marks;
         settings = rep .settings;
         live = omega (arith, rep .live, found-gone id r (root x) (x .tree) found .2 (λ d. 1));
+        changes = ap (λ (n : ℕ). n + 1) (rep .changes);
       })
       (without-stored hit f)

@@ -3,7 +3,7 @@
 --     head-read, behind-read       the memory after the stores, by where the dot stood
 use mathlib.Core.Path.{_≡_, refl, ap, _∙_}
 use mathlib.Core.List.{List}
-use Prim.Native.Nat.{ℕ, _-_}
+use Prim.Native.Nat.{ℕ, _+_, _-_}
 use native.Mathlib.Omega.{arith}
 use lib.IntN.{ℤ}
 use borrow.Author.Tests.{eq-eqb, ne-eqb}
@@ -40,7 +40,7 @@ abbrev pub rectsWithout : List ℤ → Hit → List ℤ
 rectsWithout rects hit = setRectAt rects (hit .place) (zeroDot .rect)
 
 abbrev pub stateWithout : State → Hit → State
-stateWithout s hit = record { settings = s .settings; «free_group» = s .«free_group»; «free_place» = hit .place; live = s .live - 1 }
+stateWithout s hit = record { settings = s .settings; «free_group» = s .«free_group»; «free_place» = hit .place; live = s .live - 1; changes = s .changes + 1 }
 
 module _ (nodes dots : List ℕ) (rects : List ℤ) (b head : ℕ) (here : HasNode nodes b) where
   abbrev pub without : Hit → Mem

@@ -11,7 +11,7 @@ returns-2 : tie.Need-returns-2
 returns-2 c =
     let at-state-in : tie.After-state-in = search in
     let at-else1 : tie.Else1 = search in
-    check-row _ _ _ _ _ _ _ _ (at-else1 .if1 .left) (at-state-in .state-in .ensures) (c .before .before .check .ensures)
+    check-row _ _ _ _ _ _ _ _ (at-else1 .if1 .left) (at-state-in .state-in .ensures .0) (c .before .before .check .ensures)
 
 pub krakvinge-check-spec : {M : Type 1} → statement M
 krakvinge-check-spec =

@@ -1,6 +1,6 @@
 -- The call's own contract, after a test of both rows.
 use mathlib.Core.Path.{refl}
-use Rattle.krakvinge.specs.Laws.Rows.{ten, two}
+use Rattle.host_rows.specs.Laws.Rows.{twelve, two}
 use Rattle.krakvinge.specs.Laws.Exports.{exported-other, exported-read}
 use borrow.Author.Needs.{needs}
 use Rattle.krakvinge.proofs.asking.krakvinge_leaves.Statement.{statement}
@@ -22,5 +22,5 @@ krakvinge-leaves-spec =
     -- rows of another length
     (λ c κs. search needs) (λ c. search needs) (λ c. search exported-other)
     -- the call
-    (λ c κs. search ten) (λ c κs. search needs) (λ c κs. search two)
+    (λ c κs. search twelve) (λ c κs. search needs) (λ c κs. search two)
     (λ c. search needs) (λ c. search needs) (λ c. search needs) returns-2)

@@ -8,7 +8,7 @@ use Rattle.model.specs.declared.State.{State}
 use Rattle.batch_step.specs.Steps.{Begun}
 use Rattle.batch.specs.Runs.{words, Progress}
 use Rattle.batch.specs.Laws.Runs.{progress-begun, progress-ready, progress-step, progress-done}
-use Rattle.krakvinge.specs.Records.{recordsIn}
+use Rattle.host_rows.specs.Records.{recordsIn}
 use Rattle.krakvinge.specs.Laws.Records.{records-length, begun-records, stepped-record}
 use borrow.Author.Needs.{needs}
 use Rattle.krakvinge.proofs.batching.carry_out_all.Statement.{statement}

@@ -1,6 +1,6 @@
 -- A row of another length, a refusal, or the records carried out, with the state in its row.
 use mathlib.Core.Path.{refl}
-use Rattle.krakvinge.specs.Laws.Records.{batch-ten, batch-refused, batch-answered}
+use Rattle.krakvinge.specs.Laws.Records.{batch-twelve, batch-refused, batch-answered}
 use Rattle.krakvinge.specs.Laws.Exports.{exported-other, exported-changed}
 use borrow.Author.Needs.{needs}
 use Rattle.krakvinge.proofs.batching.krakvinge_batch.Statement.{statement}
@@ -12,7 +12,7 @@ returns c = let fit : tie.After-batch-fits = search in exported-other (fit .batc
 state-in-requires : tie.Need-state-in-requires
 state-in-requires c κs =
     let fits : tie.Else1 = search in
-    batch-ten _ _ (fits .before .batch-fits .ensures) (fits .if1 .left)
+    batch-twelve _ _ (fits .before .batch-fits .ensures) (fits .if1 .left)
 
 returns-2 : tie.Need-returns-2
 returns-2 c =
@@ -22,12 +22,12 @@ returns-2 c =
     let fits : tie.Else1 = search in
     let said = rw (batch-refused (done .carry-out-all .result) (refused .if2 .taken)) at (done .carry-out-all .ensures .0) in
     exported-changed (λ t. done .carry-out-all .result .state) _ (fits .before .batch-fits .ensures) (fits .if1 .left)
-    (read .state-in .ensures) said refl (record { answer = refl; returned = refl })
+    (read .state-in .ensures .0) said refl (record { answer = refl; returned = refl })
 
 state-out-requires : tie.Need-state-out-requires
 state-out-requires c κs =
     let fits : tie.Else1 = search in
-    batch-ten _ _ (fits .before .batch-fits .ensures) (fits .if1 .left)
+    batch-twelve _ _ (fits .before .batch-fits .ensures) (fits .if1 .left)
 
 returns-3 : tie.Need-returns-3
 returns-3 c =
@@ -38,7 +38,7 @@ returns-3 c =
     let fits : tie.Else1 = search in
     let said = rw (batch-answered (done .carry-out-all .result) (accepted .if2 .left)) at (done .carry-out-all .ensures .0) in
     exported-changed (λ t. done .carry-out-all .result .state) _ (fits .before .batch-fits .ensures) (fits .if1 .left)
-    (read .state-in .ensures) said (stored .state-out .ensures) (record { answer = refl; returned = refl })
+    (read .state-in .ensures .0) said (stored .state-out .ensures) (record { answer = refl; returned = refl })
 
 pub krakvinge-batch-spec : {M : Type 1} → statement M
 krakvinge-batch-spec =

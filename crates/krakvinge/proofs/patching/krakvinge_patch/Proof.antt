@@ -2,8 +2,8 @@
 use mathlib.Core.Path.{_≡_, ap, _∙_}
 use Rattle.model.specs.Answers.{patchState}
 use Rattle.model.specs.Patch.{patchFits}
-use Rattle.krakvinge.specs.Rows.{patchOf}
-use Rattle.krakvinge.specs.Laws.Rows.{ten, ten-two, told-patch}
+use Rattle.host_rows.specs.Rows.{patchOf}
+use Rattle.host_rows.specs.Laws.Rows.{twelve, twelve-two, told-patch}
 use Rattle.krakvinge.specs.Laws.Exports.{exported-other, exported-changed, patch-bad, patch-good}
 use borrow.Author.Needs.{needs}
 use Rattle.krakvinge.proofs.patching.krakvinge_patch.Statement.{statement}
@@ -28,10 +28,10 @@ returns-2 c =
     patch-good (tested range) (good .if1 .left) (exported-other (rows .rows-fit .ensures) (c .if2 .taken))
 
 state-in-requires : tie.Need-state-in-requires
-state-in-requires c κs = let fits : tie.Else2 = search in ten _ _ (fits .before .rows-fit .ensures) (fits .if2 .left)
+state-in-requires c κs = let fits : tie.Else2 = search in twelve _ _ (fits .before .rows-fit .ensures) (fits .if2 .left)
 
 patch-out-requires : tie.Need-patch-out-requires
-patch-out-requires c κs = let fits : tie.Else2 = search in ten-two _ _ (fits .before .rows-fit .ensures) (fits .if2 .left)
+patch-out-requires c κs = let fits : tie.Else2 = search in twelve-two _ _ (fits .before .rows-fit .ensures) (fits .if2 .left)
 
 returns-3 : tie.Need-returns-3
 returns-3 c =
@@ -45,7 +45,7 @@ returns-3 c =
     let said = rw (told-patch (f .x) (f .y)) at (called .patch .ensures) in
     patch-good (tested range) (good .if1 .left)
     (exported-changed (λ t. patchState t (called .patch .result)) _ (fits .before .rows-fit .ensures) (fits .if2 .left)
-    (read .state-in .ensures) said (out .patch-out .ensures .0) (out .patch-out .ensures .1))
+    (read .state-in .ensures .0) said (out .patch-out .ensures .0) (out .patch-out .ensures .1))
 
 pub krakvinge-patch-spec : {M : Type 1} → statement M
 krakvinge-patch-spec =

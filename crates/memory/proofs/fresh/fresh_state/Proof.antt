@@ -9,7 +9,7 @@ unfolding freshState
 returns c =
     let c1 = c .before in
     let c2 = c1 .before in
-    λ i. record { settings = c2 .args .settings; «free_group» = c1 .head .ensures i; «free_place» = c .head2 .ensures i; live = 0 }
+    λ i. record { settings = c2 .args .settings; «free_group» = c1 .head .ensures i; «free_place» = c .head2 .ensures i; live = 0; changes = 0 }
 
 pub fresh-state-spec : {M : Type 1} → statement M
 fresh-state-spec = tie.close (tie.spec

@@ -1,6 +1,6 @@
 -- Cleanup's answer, by its cases, and the line written for it.
 use borrow.Author.Needs.{needs}
-use Rattle.ticket.specs.Laws.Replies.{cleanup-refused, cleaned}
+use Rattle.ticket.specs.Laws.Replies.{cleanup-refused, cleaned, not-cleaned}
 use Rattle.ticket.proofs.later.answer_cleanup.Statement.{statement}
 use Rattle.ticket.proofs.later.answer_cleanup.Tie as tie
 
@@ -9,6 +9,7 @@ answer-cleanup-spec =
     tie.close
     (tie.spec
     (λ c κs. search needs) (λ c. search needs) (λ c κs. search needs) (λ c. search needs)
-    (λ c. search needs) (λ c κs. search needs) (λ c. search needs) (λ c. search needs)
-    (λ c. search needs) (λ c. search cleanup-refused)
-    (λ c. search needs) (λ c. search needs) (λ c. search needs) (λ c. search cleaned))
+    (λ c κs. search needs) (λ c. search needs) (λ c κs. search needs) (λ c. search needs)
+    (λ c. search needs) (λ c. search needs) (λ c. search cleanup-refused)
+    (λ c. search needs) (λ c. search needs) (λ c. search needs) (λ c. search cleaned)
+    (λ c. search needs) (λ c. search needs) (λ c. search needs) (λ c. search not-cleaned))

@@ -35,7 +35,7 @@ returns-2 c =
     let at : tie.After-dot-at = search in
     let start : tie.Start = search in
     let inserted = done .insert-dot .ensures in
-    record { on = λ marks x g. lay-laid (start .pre .1) (at .dot-at .ensures) _ inserted (told .next .given .1) (c .changed .ensures) g }
+    record { on = λ marks x g. lay-laid (start .pre .1) (at .dot-at .ensures) _ inserted (told .next .given .1) (c .followed-by .ensures) g }
 
 pub lay-dot-spec : {M : Type 1} → statement M
 lay-dot-spec =
