@@ -16,8 +16,8 @@ use Rattle.lines.specs.Reading.{Output, Written}
 use Rattle.lines.specs.Grids.{GridLineOf}
 use Rattle.lines.specs.declared.grid_line.GridLine.{GridLine}
 use Rattle.lines.specs.declared.grid_line.GridLine.the-variants as line
-use Rattle.ticket.specs.declared.first.Start.{Start}
-use Rattle.ticket.specs.declared.first.Start.the-variants as start
+use Rattle.ticket.specs.declared.Start.{Start}
+use Rattle.ticket.specs.declared.Start.the-variants as start
 use Rattle.ticket.specs.Ticket.{replyLine, Answered}
 
 -- §19.6: a line for each window, in their order, then the total's

@@ -1,22 +1,21 @@
 -- What the reads of a program come to (§13.1, §13.2, §13.5).
 --     Chunked      the bytes of one read: its whole lines are answered, a part of one is kept
---     leftOver, isLeft, endPhase, Finished         the input's end
 --     ReadAnswered, ReadOn         one read, or the input's end, or a read that failed
 --     Reading      the reads so far
 --     ticketLines, AllAnswered     THE STATEMENT for a run: there are bytes, in some pieces, whose lines are those that were answered
 use mathlib.Core.Path.{_≡_}
-use mathlib.Core.Bool.{Bool, true, false}
+use mathlib.Core.Bool.{true, false}
 use mathlib.Core.List.{List, [], _∷_}
 use Prim.Native.Nat.{ℕ, _≤_}
-use lib.Dec.{ltb}
 use lib.ListN.{length, take}
-use Rattle.line_reader.specs.Cut.{lines, lastLine, joined, progress, readBytes, readPieces, handOut}
+use Rattle.line_reader.specs.Cut.{lines, joined, progress, readBytes, readPieces, handOut}
 use Rattle.stream.specs.declared.Got.{Got}
-use Rattle.ticket_io.specs.declared.phase.Program.{Program}
-use Rattle.ticket_io.specs.declared.phase.Phase.{Phase}
-use Rattle.ticket_io.specs.declared.phase.Phase.the-variants as phase
-use Rattle.ticket_io.specs.declared.run.Progress.{Progress}
-use Rattle.ticket_io.specs.Turns.{Lent, Turns}
+use Rattle.ticket.specs.declared.Program.{Program}
+use Rattle.ticket.specs.declared.Phase.{Phase}
+use Rattle.ticket.specs.declared.Phase.the-variants as phase
+use Rattle.ticket.specs.Turns.{Lent, Turns}
+use Rattle.ticket_end.specs.declared.Progress.{Progress}
+use Rattle.ticket_end.specs.End.{endPhase, Finished}
 
 -- the lines that end in the bytes, the first of them begun by the part that was kept; room: how much of a line is kept
 pub record Chunked (p : Program) (from : Phase) (kept bytes : List ℕ) (room : ℕ) (l : Lent) (to : Progress) (line : List ℕ) (l′ : Lent) : Type 0 where
@@ -24,31 +23,6 @@ pub record Chunked (p : Program) (from : Phase) (kept bytes : List ℕ) (room : 
   pub cut : readBytes handOut room (progress [] kept) bytes ≡ progress whole (take (to .kept) line)
   pub turns : Turns p from l whole (to .phase) l′
   pub within : to .kept ≤ length line
-
--- §13.2, §13.5: a last line may lack its LF; a first line that is missing is an empty one
-abbrev pub leftOver : Phase → List ℕ → List (List ℕ)
-leftOver phase.First kept = kept ∷ []
-leftOver (phase.Going s) kept = lastLine kept
-leftOver phase.Ended kept = lastLine kept
-leftOver phase.Failed kept = lastLine kept
-
--- whether anything is
-abbrev pub isLeft : Phase → ℕ → Bool
-isLeft phase.First kept = true
-isLeft (phase.Going s) kept = ltb 0 kept
-isLeft phase.Ended kept = ltb 0 kept
-isLeft phase.Failed kept = ltb 0 kept
-
-abbrev pub endPhase : Phase → Phase
-endPhase phase.First = phase.Ended
-endPhase (phase.Going s) = phase.Ended
-endPhase phase.Ended = phase.Ended
-endPhase phase.Failed = phase.Failed
-
-pub record Finished (p : Program) (from : Phase) (kept : List ℕ) (l : Lent) (q : Phase) (l′ : Lent) : Type 0 where
-  pub last : Phase
-  pub turns : Turns p from l (leftOver from kept) last l′
-  pub ends : q ≡ endPhase last
 
 -- by what a read brought: bytes, which the buffer begins with; the input's end; an error, after which a part of a line is no line
 pub data ReadAnswered (p : Program) (from : Progress) (got : Got) (line₀ : List ℕ) (l : Lent) (buffer : List ℕ) (to : Progress) (line : List ℕ) (l′ : Lent)

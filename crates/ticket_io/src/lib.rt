@@ -1,12 +1,12 @@
 // Tickets from standard input to standard output, for trees of 1024 places and 512 groups. Each program tells its exit status.
-mod phase;
+mod reads;
 mod run;
 
 ghost use Prim.Native.Nat.{_≤_};
 ghost use lib.ListN.{length};
-ghost use Rattle.ticket_io.specs.Room.{Room};
-use crate::phase::Program;
+ghost use Rattle.ticket.specs.Room.{Room};
 use crate::run::answer_ticket;
+use ticket::Program;
 
 // A program's own rows: the answer's words and its bytes. The tree's, the line's and the buffer's are the same for all.
 fn run_program(program: Program, row: &mut [u32], out: &mut [u8]) -> u32

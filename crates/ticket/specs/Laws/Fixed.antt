@@ -26,8 +26,8 @@ use Rattle.lines.specs.declared.line.Line.{Line}
 use Rattle.lines.specs.declared.line.Line.the-variants as line
 use Rattle.lines.specs.declared.grid_line.GridLine.{GridLine}
 use Rattle.lines.specs.declared.grid_line.GridLine.the-variants as gridLine
-use Rattle.ticket.specs.declared.first.Start.{Start}
-use Rattle.ticket.specs.declared.first.Start.the-variants as start
+use Rattle.ticket.specs.declared.Start.{Start}
+use Rattle.ticket.specs.declared.Start.the-variants as start
 use Rattle.ticket.specs.Ticket.{replyLine, refusalLine, listing, plainDot, InsertLine, Nine, LineAnswer, Answered}
 use Rattle.ticket.specs.First.{startOf, MakeLine, NoStart, FirstAnswer, Started}
 use Rattle.ticket.specs.Report.{GridAnswered, TurnAnswer, Turned}

@@ -21,8 +21,8 @@ use Rattle.lines.specs.declared.line.Call.{Call}
 use Rattle.lines.specs.declared.line.Call.the-variants as call
 use Rattle.lines.specs.declared.line.Line.{Line}
 use Rattle.lines.specs.declared.line.Line.the-variants as line
-use Rattle.ticket.specs.declared.first.Start.{Start}
-use Rattle.ticket.specs.declared.first.Start.the-variants as start
+use Rattle.ticket.specs.declared.Start.{Start}
+use Rattle.ticket.specs.declared.Start.the-variants as start
 use Rattle.ticket.specs.Ticket.{refusalLine, plainDot, InsertLine, RemoveLine, CleanupLine, QueryLine, Called, Answered}
 use Rattle.ticket.specs.First.{afterStart, MakeLine, NoStart, FirstAnswer, Started}
 

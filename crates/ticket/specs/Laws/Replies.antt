@@ -29,7 +29,7 @@ use Rattle.model.specs.declared.answers.QueryAnswer.the-variants as query
 use Rattle.model.specs.Answers.{makeState, makeReply, insertReply, insertState, yesNoReply, yesNoState, queryReply}
 use Rattle.lines.specs.Text.{answer}
 use Rattle.lines.specs.Reading.{Output, output, Written}
-use Rattle.ticket.specs.declared.first.Start.the-variants as start
+use Rattle.ticket.specs.declared.Start.the-variants as start
 use Rattle.ticket.specs.Ticket.{refusalLine, listing, InsertLine, RemoveLine, CleanupLine, QueryLine}
 use Rattle.ticket.specs.First.{MakeLine}
 

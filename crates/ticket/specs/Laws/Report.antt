@@ -35,7 +35,7 @@ use Rattle.lines.specs.declared.line.Line.{Line}
 use Rattle.lines.specs.declared.line.Line.the-variants as line
 use Rattle.lines.specs.declared.grid_line.GridLine.{GridLine}
 use Rattle.lines.specs.declared.grid_line.GridLine.the-variants as gridLine
-use Rattle.ticket.specs.declared.first.Start.the-variants as start
+use Rattle.ticket.specs.declared.Start.the-variants as start
 use Rattle.ticket.specs.Ticket.{refusalLine, Nine, LineAnswer, Answered}
 use Rattle.ticket.specs.Report.{lineText, reportLines, GridAnswered, Turned}
 

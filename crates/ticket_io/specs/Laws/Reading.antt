@@ -1,6 +1,5 @@
 -- Reads, one after another.
 --     chunk-start, chunk-line, chunk-part, chunk-end       the loop over the lines of a read's bytes
---     left-going, left-ended, left-failed, finish-last, finish-none        the input's end
 --     reading-start, reading-on, reading-over, no-end      one read after another, and the last
 --     status-one, status-zero      what the exit status says
 use mathlib.Core.Path.{_≡_, refl, ap, sym, subst, _∙_}
@@ -8,12 +7,9 @@ use mathlib.Core.Bool.{Bool, true, false}
 use mathlib.Core.List.{List, [], _∷_, _++_, map}
 use Prim.Native.Nat.{ℕ, _≤_}
 use native.Mathlib.Omega.{arith}
-use borrow.Author.Tests.{ltb-true, ltb-false}
 use lib.ListN.{length, take, drop}
-use lib.Seq.{drop-length, length-take-le}
-use lib.Dec.{ltb}
+use lib.Seq.{drop-length}
 use Rattle.arithmetic.specs.Laws.Tests.{true-false}
-use Rattle.model.specs.declared.State.{State}
 use Rattle.line_reader.specs.declared.Found.{Found}
 use Rattle.line_reader.specs.declared.Found.the-variants as found
 use Rattle.line_reader.specs.Cut.{lines, lastLine, joined, progress, readBytes, handOut}
@@ -21,14 +17,15 @@ use Rattle.line_reader.specs.Steps.{Finds}
 use Rattle.line_reader.specs.Laws.Cut.{handed-more, handed-out}
 use Rattle.line_reader.specs.Laws.Steps.{finds-reads, line-inside}
 use Rattle.stream.specs.declared.Got.{Got}
-use Rattle.ticket_io.specs.declared.phase.Program.{Program}
-use Rattle.ticket_io.specs.declared.phase.Phase.{Phase}
-use Rattle.ticket_io.specs.declared.phase.Phase.the-variants as phase
-use Rattle.ticket_io.specs.declared.run.Progress.{Progress}
-use Rattle.ticket_io.specs.Turns.{isOver, Lent, Turn, Turns, over, turned}
-use Rattle.ticket_io.specs.Reading.{Chunked, leftOver, isLeft, endPhase, Finished, ReadAnswered, some, none, failed, ReadOn, Reading}
-use Rattle.ticket_io.specs.Reading.{ticketLines, AllAnswered}
-use Rattle.ticket_io.specs.Laws.Turns.{turns-append, turns-more, turns-over, never-first, turns-told}
+use Rattle.ticket.specs.declared.Program.{Program}
+use Rattle.ticket.specs.declared.Phase.{Phase}
+use Rattle.ticket.specs.declared.Phase.the-variants as phase
+use Rattle.ticket.specs.Turns.{isOver, Lent, Turn, Turns, over, turned}
+use Rattle.ticket.specs.Laws.Turns.{turns-append, turns-more, turns-over, never-first, turns-told}
+use Rattle.ticket_end.specs.declared.Progress.{Progress}
+use Rattle.ticket_end.specs.End.{leftOver, endPhase, Finished}
+use Rattle.ticket_end.specs.Laws.End.{end-over}
+use Rattle.ticket_io.specs.Reading.{Chunked, ReadAnswered, some, none, failed, ReadOn, Reading, ticketLines, AllAnswered}
 
 -- ---- the lines of a read's bytes
 
@@ -81,54 +78,6 @@ module _ {p : Program} {from : Phase} {begun bytes : List ℕ} {room : ℕ} {l :
         within = so-far .within;
       }
 
--- ---- the input's end
-
-module _ (kept : ℕ) {q : Phase} where
-  pub left-going : {s : State} → q ≡ phase.Going s → ltb 0 kept ≡ isLeft q kept
-  left-going e = rw e refl
-
-  pub left-ended : q ≡ phase.Ended → ltb 0 kept ≡ isLeft q kept
-  left-ended e = rw e refl
-
-  pub left-failed : q ≡ phase.Failed → ltb 0 kept ≡ isLeft q kept
-  left-failed e = rw e refl
-
-some-last : (bytes : List ℕ) → 1 ≤ length bytes → lastLine bytes ≡ bytes ∷ []
-some-last [] h = absurd (omega arith)
-some-last (b ∷ bs) h = refl
-
-module _ (kept : ℕ) (line : List ℕ) where
-  some-bytes : kept ≤ length line → ltb 0 kept ≡ true → lastLine (take kept line) ≡ take kept line ∷ []
-  some-bytes fits e = some-last (take kept line) (omega (arith, ltb-true 0 kept e, length-take-le kept line fits))
-
-  no-bytes : ltb 0 kept ≡ false → lastLine (take kept line) ≡ []
-  no-bytes e = let none : kept ≡ 0 = omega (arith, ltb-false 0 kept e) in rw none refl
-
-  left-line : (q : Phase) → kept ≤ length line → isLeft q kept ≡ true → leftOver q (take kept line) ≡ take kept line ∷ []
-  left-line phase.First fits e = refl
-  left-line (phase.Going s) fits e = some-bytes fits e
-  left-line phase.Ended fits e = some-bytes fits e
-  left-line phase.Failed fits e = some-bytes fits e
-
-  left-none : (q : Phase) → isLeft q kept ≡ false → leftOver q (take kept line) ≡ []
-  left-none phase.First e = true-false e
-  left-none (phase.Going s) e = no-bytes e
-  left-none phase.Ended e = no-bytes e
-  left-none phase.Failed e = no-bytes e
-
-  module _ {p : Program} {q r : Phase} {l : Lent} {left : Bool} (test : left ≡ isLeft q kept) where
-    -- a line that is left is turned
-    pub finish-last : {m : Phase} {l′ : Lent} → left ≡ true → kept ≤ length line → Turn p q l (take kept line) m l′ → r ≡ endPhase m
-        → Finished p q (take kept line) l r l′
-    finish-last {m} {l′} taken fits t ends =
-        let one = left-line q fits (sym test ∙ taken) in
-        record { last = m; turns = subst (λ (ls : List (List ℕ)). Turns p q l ls m l′) (sym one) (turned t over); ends = ends }
-
-    pub finish-none : left ≡ false → r ≡ endPhase q → Finished p q (take kept line) l r l
-    finish-none untaken ends =
-        let none = left-none q (sym test ∙ untaken) in
-        record { last = q; turns = subst (λ (ls : List (List ℕ)). Turns p q l ls q l) (sym none) over; ends = ends }
-
 -- ---- one read after another
 
 pub reading-start : (p : Program) (room : ℕ) (line : List ℕ) (l : Lent) → Reading p room l (record { phase = phase.First; kept = 0 }) line l
@@ -147,12 +96,6 @@ left-lines phase.Failed (x ∷ xs) kept ts = refl
 kept-ticket : (ls : List (List ℕ)) → ticketLines (map (take 81) ls) ≡ map (take 81) (ticketLines ls)
 kept-ticket [] = refl
 kept-ticket (l ∷ ls) = refl
-
-end-over : (q : Phase) → isOver (endPhase q) ≡ true
-end-over phase.First = refl
-end-over (phase.Going s) = refl
-end-over phase.Ended = refl
-end-over phase.Failed = refl
 
 abbrev isFailed : Phase → Bool
 isFailed phase.First = false

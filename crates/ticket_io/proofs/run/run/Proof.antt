@@ -4,10 +4,10 @@ use Prim.Native.Nat.{_≤_}
 use native.Mathlib.Omega.{arith}
 use lib.ListN.{length}
 use borrow.Author.Needs.{needs}
-use Rattle.ticket_io.specs.Room.{Room}
-use Rattle.ticket_io.specs.Turns.{lent}
+use Rattle.ticket.specs.Room.{Room}
+use Rattle.ticket.specs.Turns.{lent}
+use Rattle.ticket.specs.Laws.Room.{room-kept}
 use Rattle.ticket_io.specs.Reading.{Reading}
-use Rattle.ticket_io.specs.Laws.Room.{room-kept}
 use Rattle.ticket_io.specs.Laws.Reading.{reading-start, reading-on, reading-over, no-end}
 use Rattle.ticket_io.proofs.run.run.Statement.{statement}
 use Rattle.ticket_io.proofs.run.run.Tie as tie
