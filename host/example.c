@@ -107,8 +107,14 @@ int main(void) {
     grid(65, 1);
     refused |= krakvinge_leaves(TREE, row, WORDS(row), ANSWER);
     printf("leaves: %" PRIu32 ", the first [%d, %d, %d, %d, %d, %d]\n", answer[0], row[0], row[1], row[2], row[3], row[4], row[5]);
+    /* a dot that begins on the right edge */
+    insert(8, 16, 1, 17, 2, 0);
+    refused |= krakvinge_collect_ids(TREE, ids, WORDS(ids), ANSWER);
+    printf("collect_ids: %" PRIu32 " ids, %" PRIu32 " nodes opened\n", answer[0], answer[1]);
     refused |= krakvinge_all(TREE, ids, WORDS(ids), ANSWER);
     printf("all: %" PRIu32 " ids\n", answer[0]);
+    refused |= krakvinge_remove(TREE, 8, 16, 1, 17, 2, ANSWER);
+    printf("remove 8: %s\n", answer[0] == 1 ? "true" : "false");
     refused |= krakvinge_remove(TREE, 3, 7, 7, 9, 9, ANSWER);
     printf("remove 3: %s\n", answer[0] == 1 ? "true" : "false");
     refused |= krakvinge_cleanup(TREE, ANSWER);

@@ -53,7 +53,12 @@ fn run() -> Result<(), Refused> {
     let mut row = [0; 24];
     let leaves = film.leaves(&mut row)?;
     println!("leaves: {leaves}, the first {:?}", &row[..6]);
-    println!("all: {} ids", film.all(&mut ids)?.hits);
+    // a dot that begins on the right edge
+    println!("insert 8: {} splits", film.insert(8, [16, 1, 17, 2], 0)?);
+    let collected = film.collect_ids(&mut ids)?;
+    println!("collect_ids: {} ids, {} nodes opened", collected.hits, collected.opened);
+    println!("all: {} ids", film.all(&mut ids)?);
+    println!("remove 8: {}", film.remove(8, [16, 1, 17, 2])?);
     println!("remove 3: {}", film.remove(3, [7, 7, 9, 9])?);
     println!("cleanup: {}", film.cleanup()?);
     println!("references: {}", film.references()?);

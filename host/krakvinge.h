@@ -16,10 +16,10 @@
  * an id as a link.
  *
  * Each call returns 0, or its refusal (KRAKVINGE_REFUSAL, krakvinge_refusal_text); 8 has 256 times the number of answers added (KRAKVINGE_WANTED).
- * An answer of query, all and grid is one word of the row, an answer of leaves six (KRAKVINGE_LEAF_WORDS).
+ * An answer of query, collect_ids, all and grid is one word of the row, an answer of leaves six (KRAKVINGE_LEAF_WORDS).
  * An accepted call writes its answer to the answer row; a refused one leaves it and the state as they were:
- *     insert, ask, place: splits, 0       remove, cleanup: 1 for yes or 0 for no, 0       query, all: hits, opened
- *     leaves, references: number, 0       patch: dots laid, 0       grid: the total, its low word first (KRAKVINGE_TOTAL)
+ *     insert, ask, place: splits, 0       remove, cleanup: 1 for yes or 0 for no, 0       query, collect_ids: hits, opened
+ *     all, leaves, references: number, 0       patch: dots laid, 0       grid: the total, its low word first (KRAKVINGE_TOTAL)
  * A batch has a row of answers instead, a word for each record.
  */
 #ifndef KRAKVINGE_H
@@ -31,7 +31,7 @@
 extern "C" {
 #endif
 
-#define KRAKVINGE_VERSION "0.6.0"
+#define KRAKVINGE_VERSION "0.7.0"
 
 #define KRAKVINGE_STATE_WORDS 12
 #define KRAKVINGE_ANSWER_WORDS 2
@@ -158,7 +158,14 @@ uint64_t krakvinge_query(const uint32_t *state, size_t state_words, const uint32
                          size_t dot_words, const int32_t *rects, size_t rect_words, uint8_t *marks, size_t mark_bytes, int32_t x1, int32_t y1,
                          int32_t x2, int32_t y2, uint16_t inks, uint32_t *ids, size_t id_words, uint32_t *answer, size_t answer_words);
 
-/* A query of all inks with the root's rectangle. */
+/* A query of all inks with the root's rectangle, as the original's collect_ids: a dot that begins on the root's right or lower edge and
+ * lies outside is not listed. */
+uint64_t krakvinge_collect_ids(const uint32_t *state, size_t state_words, const uint32_t *nodes, size_t node_words, const uint32_t *dots,
+                               size_t dot_words, const int32_t *rects, size_t rect_words, uint8_t *marks, size_t mark_bytes, uint32_t *ids,
+                               size_t id_words, uint32_t *answer, size_t answer_words);
+
+/* Every dot, of all inks and wherever it lies, in the order in which a query of everything would list it. Their ids stand in the row's first words; a
+ * longer row keeps its tail. There are as many as the state's live number. */
 uint64_t krakvinge_all(const uint32_t *state, size_t state_words, const uint32_t *nodes, size_t node_words, const uint32_t *dots,
                        size_t dot_words, const int32_t *rects, size_t rect_words, uint8_t *marks, size_t mark_bytes, uint32_t *ids,
                        size_t id_words, uint32_t *answer, size_t answer_words);

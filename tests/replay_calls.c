@@ -3,7 +3,7 @@
  * where it was accepted, the two words of its answer and those that it listed (of an ask the ticket); or 'nodes', 'dots', 'changes' or 'freegroups',
  * '=', and the words of the memory or the free groups' numbers at this point. A recorded word '_' stands for any.
  * The numbers of a call: insert and ask id x1 y1 x2 y2 ink; place these and the two words of a count; remove id x1 y1 x2 y2;
- * query x1 y1 x2 y2 mask room; all and leaves room; grid x y width height columns rows room; patch x y columns rows tint first-id. */
+ * query x1 y1 x2 y2 mask room; collect_ids, all and leaves room; grid x y width height columns rows room; patch x y columns rows tint first-id. */
 #include "../host/krakvinge.h"
 #include <inttypes.h>
 #include <stdbool.h>
@@ -61,7 +61,7 @@ static int count_of(const char *kind) {
         return 5;
     if (strcmp(kind, "grid") == 0)
         return 7;
-    if (strcmp(kind, "all") == 0 || strcmp(kind, "leaves") == 0)
+    if (strcmp(kind, "collect_ids") == 0 || strcmp(kind, "all") == 0 || strcmp(kind, "leaves") == 0)
         return 1;
     return strcmp(kind, "cleanup") == 0 || strcmp(kind, "references") == 0 ? 0 : -1;
 }
@@ -96,6 +96,8 @@ static uint64_t call(const char *kind, const long long *n, size_t room) {
         return krakvinge_cleanup(TREE, ANSWER);
     if (strcmp(kind, "query") == 0)
         return krakvinge_query(TREE, RECT(n), (uint16_t)n[4], ids, room, ANSWER);
+    if (strcmp(kind, "collect_ids") == 0)
+        return krakvinge_collect_ids(TREE, ids, room, ANSWER);
     if (strcmp(kind, "all") == 0)
         return krakvinge_all(TREE, ids, room, ANSWER);
     if (strcmp(kind, "grid") == 0)

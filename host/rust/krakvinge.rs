@@ -154,6 +154,7 @@ pub mod raw {
         pub fn krakvinge_batch(s: *mut u32, sn: usize, n: *mut u32, nn: usize, d: *mut u32, dn: usize, r: *mut i32, rn: usize, m: *mut u8, mn: usize, w: *const u32, wn: usize, a: *mut u32, an: usize) -> u64;
         pub fn krakvinge_patch(s: *mut u32, sn: usize, n: *mut u32, nn: usize, d: *mut u32, dn: usize, r: *mut i32, rn: usize, m: *mut u8, mn: usize, x: i32, y: i32, columns: u32, rows: u32, tint: u32, first_id: u32, a: *mut u32, an: usize) -> u64;
         pub fn krakvinge_query(s: *const u32, sn: usize, n: *const u32, nn: usize, d: *const u32, dn: usize, r: *const i32, rn: usize, m: *mut u8, mn: usize, x1: i32, y1: i32, x2: i32, y2: i32, inks: u16, i: *mut u32, il: usize, a: *mut u32, an: usize) -> u64;
+        pub fn krakvinge_collect_ids(s: *const u32, sn: usize, n: *const u32, nn: usize, d: *const u32, dn: usize, r: *const i32, rn: usize, m: *mut u8, mn: usize, i: *mut u32, il: usize, a: *mut u32, an: usize) -> u64;
         pub fn krakvinge_all(s: *const u32, sn: usize, n: *const u32, nn: usize, d: *const u32, dn: usize, r: *const i32, rn: usize, m: *mut u8, mn: usize, i: *mut u32, il: usize, a: *mut u32, an: usize) -> u64;
         pub fn krakvinge_leaves(s: *const u32, sn: usize, n: *const u32, nn: usize, d: *const u32, dn: usize, r: *const i32, rn: usize, m: *mut u8, mn: usize, w: *mut i32, wn: usize, a: *mut u32, an: usize) -> u64;
         pub fn krakvinge_references(s: *const u32, sn: usize, n: *const u32, nn: usize, d: *const u32, dn: usize, r: *const i32, rn: usize, m: *mut u8, mn: usize, a: *mut u32, an: usize) -> u64;
@@ -258,6 +259,16 @@ impl Rows {
             raw::krakvinge_query(
                 s.as_ptr(), s.len(), n.as_ptr(), n.len(), d.as_ptr(), d.len(), r.as_ptr(), r.len(), m.as_mut_ptr(), m.len(),
                 x1, y1, x2, y2, inks, ids.as_mut_ptr(), ids.len(), a.as_mut_ptr(), a.len(),
+            )
+        }
+    }
+
+    pub fn collect_ids(&mut self, ids: &mut [u32], a: &mut [u32]) -> u64 {
+        let Rows { state: s, nodes: n, dots: d, rects: r, marks: m } = self;
+        unsafe {
+            raw::krakvinge_collect_ids(
+                s.as_ptr(), s.len(), n.as_ptr(), n.len(), d.as_ptr(), d.len(), r.as_ptr(), r.len(), m.as_mut_ptr(), m.len(),
+                ids.as_mut_ptr(), ids.len(), a.as_mut_ptr(), a.len(),
             )
         }
     }
@@ -379,11 +390,17 @@ impl Tree {
         Ok(Listed { hits: hits as usize, opened })
     }
 
-    /// Of all inks.
-    pub fn all(&mut self, ids: &mut [u32]) -> Result<Listed, Refused> {
-        let result = self.rows.all(ids, &mut self.answer);
+    /// The original's: a query of all inks with the root's rectangle, which does not list a dot that begins on its right or lower edge and lies outside.
+    pub fn collect_ids(&mut self, ids: &mut [u32]) -> Result<Listed, Refused> {
+        let result = self.rows.collect_ids(ids, &mut self.answer);
         let [hits, opened] = self.accepted(result)?;
         Ok(Listed { hits: hits as usize, opened })
+    }
+
+    /// Lists every dot, of all inks and wherever it lies; answers their number, which is `live`.
+    pub fn all(&mut self, ids: &mut [u32]) -> Result<usize, Refused> {
+        let result = self.rows.all(ids, &mut self.answer);
+        Ok(self.accepted(result)?[0] as usize)
     }
 
     /// Answers the number of leaves, six words each.

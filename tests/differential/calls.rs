@@ -4,7 +4,7 @@ use std::fmt;
 pub type Rect = [i32; 4];
 pub use crate::krakvinge::Settings;
 
-// An insert ends in its ink. A query has a mask of inks; its and a leaves' room is the length of the row that is lent, in words.
+// An insert ends in its ink. A query has a mask of inks; the room of a call that lists is the length of the row that is lent, in words.
 #[derive(Clone, Copy, PartialEq, Debug)]
 pub enum Call {
     Insert(u32, Rect, u32),
@@ -14,9 +14,10 @@ pub enum Call {
     Leaves(usize),
     All(usize),
     References,
+    CollectIds(usize),
 }
 
-pub const KINDS: [&str; 7] = ["insert", "remove", "cleanup", "query", "leaves", "all", "references"];
+pub const KINDS: [&str; 8] = ["insert", "remove", "cleanup", "query", "leaves", "all", "references", "collect_ids"];
 
 impl Call {
     pub fn kind(&self) -> usize {
@@ -28,13 +29,14 @@ impl Call {
             Call::Leaves(_) => 4,
             Call::All(_) => 5,
             Call::References => 6,
+            Call::CollectIds(_) => 7,
         }
     }
 
     // The words of the row that is lent.
     pub fn room(&self) -> usize {
         match self {
-            Call::Query(_, _, room) | Call::Leaves(room) | Call::All(room) => *room,
+            Call::Query(_, _, room) | Call::Leaves(room) | Call::All(room) | Call::CollectIds(room) => *room,
             _ => 0,
         }
     }
@@ -47,7 +49,7 @@ impl fmt::Display for Call {
             Call::Insert(id, [x1, y1, x2, y2], ink) => write!(f, "{kind} {id} {x1} {y1} {x2} {y2} {ink}"),
             Call::Remove(id, [x1, y1, x2, y2]) => write!(f, "{kind} {id} {x1} {y1} {x2} {y2}"),
             Call::Query([x1, y1, x2, y2], inks, room) => write!(f, "{kind} {x1} {y1} {x2} {y2} {inks} {room}"),
-            Call::Leaves(room) | Call::All(room) => write!(f, "{kind} {room}"),
+            Call::Leaves(room) | Call::All(room) | Call::CollectIds(room) => write!(f, "{kind} {room}"),
             Call::Cleanup | Call::References => write!(f, "{kind}"),
         }
     }

@@ -93,7 +93,7 @@ pub fn memory_differs(list: &List, original: &Original, rows: &Rows) -> Option<S
     text.or_else(|| free_groups_differ(original, rows)).or_else(|| free_places_differ(original, rows))
 }
 
-// Both sides through a list. `tell` hears each call with its answer and, of a query, how many dots its mask left out.
+// Both sides through a list. `tell` hears each call with its answer and how many dots a query's mask, or a collect_ids, left out.
 pub fn differ(list: &List, fault: Fault, every: usize, mut tell: impl FnMut(&Call, &Answer, usize)) -> Option<Difference> {
     let (mut original, mut port) = (Original::new(list), Port::new(list, fault));
     for (at, call) in list.calls.iter().enumerate() {

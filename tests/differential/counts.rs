@@ -10,7 +10,7 @@ enum Ended {
     Yes,
     Split,
     SplitAgain,
-    // A query that listed some of the dots that it met, and left others out.
+    // A query that listed some of the dots that it met, and left others out; a collect_ids that left out dots on the edge.
     Partly,
 }
 
@@ -30,7 +30,7 @@ fn name(kind: usize) -> &'static str {
 }
 
 // Kind, how it ended, and of a million calls at least how many.
-const FLOORS: [(usize, Ended, u64); 25] = [
+const FLOORS: [(usize, Ended, u64); 29] = [
     (0, Accepted, 100_000),
     (0, Refused(4), 12_000),
     (0, Refused(5), 20_000),
@@ -52,6 +52,10 @@ const FLOORS: [(usize, Ended, u64); 25] = [
     (5, Refused(8), 1_500),
     (5, Yes, 6_000),
     (6, Accepted, 9_000),
+    (7, Accepted, 7_000),
+    (7, Refused(8), 1_500),
+    (7, Yes, 6_000),
+    (7, Partly, 1_000),
     (MASKED, Accepted, 30_000),
     (MASKED, Refused(8), 800),
     (MASKED, Yes, 8_000),

@@ -8,7 +8,7 @@ use crate::port::{count, set_count};
 use crate::random::Random;
 
 const ROUNDS: u32 = 3_000;
-const KINDS: usize = 12;
+const KINDS: usize = 13;
 
 fn call(rows: &mut Rows, kind: usize, words: &mut [u32], ids: &mut [u32], numbers: &mut [i32]) -> u64 {
     match kind {
@@ -24,6 +24,7 @@ fn call(rows: &mut Rows, kind: usize, words: &mut [u32], ids: &mut [u32], number
         9 => rows.ask(1, [1, 1, 2, 2], 3, &mut ids[..8], words),
         // with a count that is not the tree's: 15 comes later
         10 => rows.place(&[1, 1, 1, 2, 2, 3, 7, 7], words),
+        11 => rows.collect_ids(ids, words),
         _ => rows.batch(&[0, 1, 1, 1, 2, 2, 3, 1, 1, 1, 1, 2, 2, 3], words),
     }
 }

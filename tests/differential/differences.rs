@@ -106,6 +106,15 @@ fn short_row() -> bool {
     first && theirs.intersect_aabb(&AABB::from([1, 1, 2, 2])).len() == 1 && ours.query([1, 1, 2, 2], ALL_INKS, &mut []) == Err(Refused { number: 8, wanted: 1 })
 }
 
+// A dot that begins on the right edge: the original has no call that lists every dot.
+fn on_the_edge() -> bool {
+    let s = Settings { left: 0, top: 0, ..ROOT };
+    let (mut theirs, mut ours, mut ids) = (original(&s), Tree::new(&s, 0, 1).expect("the settings are in range"), [0; 1]);
+    let taken = takes(&mut theirs, 1, [16, 1, 17, 2]) && ours.insert(1, [16, 1, 17, 2], 0) == Ok(0);
+    let collected = theirs.collect_ids().is_empty() && ours.collect_ids(&mut []).is_ok_and(|listed| listed.hits == 0);
+    taken && collected && ours.all(&mut ids) == Ok(1) && ids == [1]
+}
+
 // The original has no inks.
 fn ink_above_15() -> bool {
     let mut ours = Tree::new(&ROOT, 0, 1).expect("the settings are in range");
@@ -121,7 +130,7 @@ fn largest_count() -> bool {
 }
 
 pub fn as_documented() -> bool {
-    let rows: [(&str, fn() -> bool); 12] = [
+    let rows: [(&str, fn() -> bool); 13] = [
         ("freed places", freed_places),
         ("an inverted dot", inverted_dot),
         ("a coordinate beyond 2^30", far_coordinate),
@@ -132,6 +141,7 @@ pub fn as_documented() -> bool {
         ("no free place", no_place),
         ("no free group", no_group),
         ("a row that is too short", short_row),
+        ("all, and a dot on the edge", on_the_edge),
         ("an ink above 15", ink_above_15),
         ("the largest count of changes", largest_count),
     ];

@@ -25,6 +25,10 @@ pub enum Fault {
     LeafMissing,
     LeafDepth,
     AllDropsFirst,
+    AllReversed,
+    AllAsCollectIds,
+    AllTellsOpened,
+    CollectIdsAsAll,
     ReferencesMore,
     NodeWord,
     ChainOrder,
@@ -49,16 +53,23 @@ pub enum Fault {
     InksSwapped,
 }
 
-pub const FAULTS: [Fault; 42] = {
+pub const FAULTS: [Fault; 46] = {
     use Fault::*;
     [
         OneSplitMore, NoPlaceEarly, NoGroupEarly, Refusal4As5, RemoveAlwaysYes, RemoveAlwaysNo, CleanupAlwaysNo, CleanupAlwaysYes, QueryDropsLast,
         QuerySwapsTwo, QueryReversed, QueryDoublesFirst, OpenedLess, AnswerWordsSwapped, RowFullRefused, WantedLess, TailWritten, LeafMissing, LeafDepth,
-        AllDropsFirst, ReferencesMore, NodeWord, ChainOrder, DotRectangle, FreeGroup, LiveAfterRefusal, MarkLeft, MaskOffByOne, MaskIgnored, MaskShowsInk0,
-        AllOfInk0, OpenedByMask, RoomForAllInks, InkDropped, Ink15Refused, Ink16Taken, InkTestedBefore4, InkTestedLast, RemoveOfInk0, RemoveLeavesInk,
-        SplitLosesInks, InksSwapped,
+        AllDropsFirst, AllReversed, AllAsCollectIds, AllTellsOpened, CollectIdsAsAll, ReferencesMore, NodeWord, ChainOrder, DotRectangle, FreeGroup,
+        LiveAfterRefusal, MarkLeft, MaskOffByOne, MaskIgnored, MaskShowsInk0, AllOfInk0, OpenedByMask, RoomForAllInks, InkDropped, Ink15Refused,
+        Ink16Taken, InkTestedBefore4, InkTestedLast, RemoveOfInk0, RemoveLeavesInk, SplitLosesInks, InksSwapped,
     ]
 };
+
+// The nodes that collect_ids opens.
+fn opened(rows: &Rows) -> u32 {
+    let (mut ids, mut words) = (vec![0; rows.state[9] as usize], [0; 2]);
+    assert_eq!(rows.clone().collect_ids(&mut ids, &mut words), 0);
+    words[1]
+}
 
 impl Fault {
     // Of an answer.
@@ -77,6 +88,10 @@ impl Fault {
             (Fault::LeafMissing, Call::Leaves(_)) if accepted && answer.words[0] > 1 => answer.words[0] -= 1,
             (Fault::LeafDepth, Call::Leaves(_)) if accepted && answer.words[0] > 1 => answer.row[10] += 1,
             (Fault::AllDropsFirst, Call::All(_)) if accepted && answer.words[0] > 0 => answer.row[0] = answer.row[answer.words[0] as usize - 1] + 1,
+            (Fault::AllReversed, Call::All(_)) if accepted => answer.row[..answer.words[0] as usize].reverse(),
+            (Fault::AllAsCollectIds, Call::All(_)) if accepted => answer.words[1] = 0,
+            (Fault::AllTellsOpened, Call::All(_)) if accepted => answer.words[1] = opened(before),
+            (Fault::CollectIdsAsAll, Call::CollectIds(_)) if accepted => answer.words[1] = opened(before),
             (Fault::ReferencesMore, Call::References) => answer.words[0] += 1,
             (Fault::LiveAfterRefusal, Call::Insert(..)) if !accepted => rows.state[9] += 1,
             (Fault::MarkLeft, Call::Query(..)) if accepted && !rows.marks.is_empty() => rows.marks[0] = 1,
@@ -98,6 +113,15 @@ impl Fault {
             Fault::WantedLess if !accepted => answer.result -= 256,
             Fault::TailWritten if accepted && hits < call.room() => answer.row[hits] = 0,
             _ => {}
+        }
+    }
+
+    // Of what the library is asked.
+    pub fn spoil_call(self, call: &Call, rows: &Rows) -> Call {
+        match (self, *call) {
+            (Fault::AllAsCollectIds, Call::All(room)) => Call::CollectIds(room),
+            (Fault::CollectIdsAsAll, Call::CollectIds(room)) => Call::All(room),
+            _ => self.spoil_inks_asked(call, rows),
         }
     }
 

@@ -6,12 +6,13 @@ use crate::original::{BRANCH, NONE};
 
 impl Fault {
     // Of what the library is asked.
-    pub fn spoil_call(self, call: &Call, rows: &Rows) -> Call {
+    pub fn spoil_inks_asked(self, call: &Call, rows: &Rows) -> Call {
         match (self, *call) {
             (Fault::MaskOffByOne, Call::Query(rect, inks, room)) => Call::Query(rect, inks.rotate_left(1), room),
             (Fault::MaskIgnored, Call::Query(rect, _, room)) => Call::Query(rect, ALL_INKS, room),
             (Fault::MaskShowsInk0, Call::Query(rect, inks, room)) => Call::Query(rect, inks | 1, room),
-            (Fault::AllOfInk0, Call::All(room)) => {
+            (Fault::AllOfInk0, Call::All(room)) => Call::Query([-1073741825, -1073741825, 1073741824, 1073741824], 1, room),
+            (Fault::AllOfInk0, Call::CollectIds(room)) => {
                 let [left, top, width, height] = [0, 1, 2, 3].map(|i| rows.state[i] as i32);
                 Call::Query([left, top, left + width, top + height], 1, room)
             }
@@ -29,6 +30,7 @@ impl Fault {
         let freed = 3 * rows.state[8] as usize + 2;
         match (self, *call) {
             (Fault::OpenedByMask, Call::Query(_, 0, _)) if accepted => answer.words[1] = 1,
+            (Fault::AllOfInk0, Call::All(_)) if accepted => answer.words[1] = 0,
             (Fault::RoomForAllInks, Call::Query(rect, _, room)) => {
                 let result = rows.clone().query(rect, ALL_INKS, &mut vec![0; room], &mut [0; 2]);
                 if result != 0 {

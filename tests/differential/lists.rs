@@ -134,7 +134,7 @@ fn ask(random: &mut Random, places: &Places, inks: &Inks, room: usize, given: &[
     let room = if random.one_in(4) { random.below(6) as usize } else { room + random.below(3) as usize };
     let rect = match random.below(10) {
         0 => return vec![Call::Leaves(if random.one_in(3) { room } else { 6 * (room + 64) })],
-        1 => return vec![Call::All(room)],
+        1 => return vec![Call::CollectIds(room), Call::All(room)],
         2 => return vec![Call::References],
         3 if !given.is_empty() => random.pick(given).1,
         _ => places.rect(random, 12),

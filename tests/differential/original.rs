@@ -190,6 +190,20 @@ impl Original {
         Answer::listed(ids.into_iter().map(i64::from).collect(), [hits, self.opened(rect)], call)
     }
 
+    fn collect_ids(&mut self, call: &Call) -> Answer {
+        let (s, ids) = (&self.settings, self.tree.collect_ids());
+        self.hidden = self.live - ids.len();
+        self.listed(ids, [s.left, s.top, s.left + s.width, s.top + s.height], call)
+    }
+
+    // A query of a rectangle around every coordinate that a dot may have lists every dot, in the order of the walk over all children.
+    fn all(&self, call: &Call) -> Answer {
+        let ids = self.tree.intersect_aabb(&AABB::from([-1073741825, -1073741825, 1073741824, 1073741824]));
+        assert_eq!(ids.len(), self.live, "the original's query of everything leaves a dot out");
+        let number = ids.len() as u32;
+        Answer::listed(ids.into_iter().map(i64::from).collect(), [number, 0], call)
+    }
+
     fn leaves(&self, call: &Call) -> Answer {
         let mut row = vec![];
         self.tree.visit_leaves(|leaf| {
@@ -207,10 +221,8 @@ impl Original {
             Call::Cleanup => self.cleanup(call),
             Call::Query(rect, inks, _) => self.query(rect, inks, call),
             Call::Leaves(_) => self.leaves(call),
-            Call::All(_) => {
-                let s = &self.settings;
-                self.listed(self.tree.collect_ids(), [s.left, s.top, s.left + s.width, s.top + s.height], call)
-            }
+            Call::All(_) => self.all(call),
+            Call::CollectIds(_) => self.collect_ids(call),
             Call::References => Answer::accepted([self.tree.count_element_references() as u32, 0]),
         }
     }

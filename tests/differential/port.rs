@@ -50,6 +50,7 @@ impl Port {
             Call::Leaves(_) => rows.leaves(&mut numbers, &mut words),
             Call::All(_) => rows.all(&mut ids, &mut words),
             Call::References => rows.references(&mut words),
+            Call::CollectIds(_) => rows.collect_ids(&mut ids, &mut words),
         };
         let row = match call {
             Call::Leaves(_) => numbers.into_iter().map(i64::from).collect(),

@@ -10,7 +10,7 @@
 
 /* The kinds of a batch's records come first, OTHER is no kind of one. A placing has a ticket with the state's count, or with one that is behind by 1,
  * ahead by 1, or another in its high word alone. */
-enum kind { INSERT, REMOVE, CLEANUP, OTHER, ASK, PLACE, BEHIND, AHEAD, HIGH, QUERY, ALL, LEAVES, REFERENCES, GRID, PATCH };
+enum kind { INSERT, REMOVE, CLEANUP, OTHER, ASK, PLACE, BEHIND, AHEAD, HIGH, QUERY, COLLECT, ALL, LEAVES, REFERENCES, GRID, PATCH };
 
 /* A call with its numbers (of a patch: the first id, the corner, the tint), its result, the first word of its answer, and how far the count rises. */
 struct step {
@@ -31,6 +31,7 @@ static const struct step EVERY[] = {
     {INSERT, 2, {3, 3, 3, 3}, 16, 10, 0, 0},
     {INSERT, 2, {16, 16, 18, 18}, 0, 5, 0, 0},
     {QUERY, 0, {0, 0, 16, 16}, 0, 0, 1, 0},
+    {COLLECT, 0, {0}, 0, 0, 1, 0},
     {ALL, 0, {0}, 0, 0, 1, 0},
     {LEAVES, 0, {0}, 0, 0, 1, 0},
     {REFERENCES, 0, {0}, 0, 0, 1, 0},
@@ -137,6 +138,7 @@ static const struct step END[] = {
     {REMOVE, 1, {1, 1, 2, 2}, 0, 16, 0, 0},
     {CLEANUP, 0, {0}, 0, 0, 0, 0},
     {QUERY, 0, {0, 0, 16, 16}, 0, 0, 1, 0},
+    {COLLECT, 0, {0}, 0, 0, 1, 0},
     {ALL, 0, {0}, 0, 0, 1, 0},
     {LEAVES, 0, {0}, 0, 0, 1, 0},
     {REFERENCES, 0, {0}, 0, 0, 1, 0},
@@ -241,6 +243,7 @@ static uint64_t call(const struct step *s, struct lengths l, uint32_t *ticket, s
     case AHEAD:
     case HIGH: return krakvinge_place(TREE(film, l), ticket, ticket_words, ANSWER);
     case QUERY: return krakvinge_query(TREE(film, l), RECT(s), KRAKVINGE_ALL_INKS, ids, WORDS(ids), ANSWER);
+    case COLLECT: return krakvinge_collect_ids(TREE(film, l), ids, WORDS(ids), ANSWER);
     case ALL: return krakvinge_all(TREE(film, l), ids, WORDS(ids), ANSWER);
     case LEAVES: return krakvinge_leaves(TREE(film, l), row, WORDS(row), ANSWER);
     case REFERENCES: return krakvinge_references(TREE(film, l), ANSWER);
@@ -279,7 +282,7 @@ static bool passes(const char *name, const struct step *s, struct lengths l) {
     memcpy(ticket, wanted, sizeof ticket);
     tried++;
     uint64_t result = s->kind == OTHER ? s->result : call(s, l, ticket, KRAKVINGE_TICKET_WORDS, answer);
-    bool opens = s->kind == QUERY || s->kind == ALL;
+    bool opens = s->kind == QUERY || s->kind == COLLECT;
     bool said = result == 0 ? answer[0] == s->word && (opens || answer[1] == 0) : answer[0] == UNWRITTEN && answer[1] == UNWRITTEN;
     bool good = result == s->result && said;
     if (s->kind == ASK && result == 0)

@@ -244,7 +244,10 @@ def line(room, kind, *rest):
         return [question(kind, [], answered(*rest))]
     if kind == 'all':
         ids, = rest
-        return [question(kind, [room], [0, len(ids), '_', *ids])]
+        return [question(kind, [room], [0, len(ids), 0, *ids])]
+    if kind == 'collectIds':
+        ids, opened = rest
+        return [question('collect_ids', [room], [0, len(ids), opened, *ids])]
     if kind == 'queryInks':
         rectangle, inks, ids, opened = rest
         return [question('query', [*corners(rectangle), inks, room], [0, len(ids), opened, *ids])]

@@ -1,9 +1,9 @@
 // Leaves: six numbers a leaf, in the row that the caller lends.
 ghost use Rattle.model.specs.Layout.{world};
 ghost use Rattle.model.specs.Calls.{Leaves};
-ghost use Rattle.model.specs.Answers.{leavesReply};
+ghost use Rattle.model.specs.Answers.{listReply};
 use model::State;
-use model::answers::LeavesAnswer;
+use model::answers::ListAnswer;
 use tree_check::check::check;
 use tree_query::leaves::leaves_row;
 
@@ -14,13 +14,13 @@ pub fn leaves(
     rects: &[i32],
     marks: &mut [u8],
     row: &mut [i32],
-) -> LeavesAnswer
+) -> ListAnswer
     ensures { λ r. ⌜ Leaves (world state (now (nodes .entry)) (now (dots .entry)) (now (rects .entry)) (now (marks .entry))) (now (row .entry))
-        (world state (now (nodes .exit)) (now (dots .exit)) (now (rects .exit)) (now (marks .exit))) (now (row .exit)) (leavesReply r) ⌝ }
+        (world state (now (nodes .exit)) (now (dots .exit)) (now (rects .exit)) (now (marks .exit))) (now (row .exit)) (listReply r) ⌝ }
 {
     let refusal = check(state, nodes, dots, rects, marks);
     if refusal != 0 {
-        return LeavesAnswer::Refused(refusal);
+        return ListAnswer::Refused(refusal);
     }
     leaves_row(state, nodes, row)
 }

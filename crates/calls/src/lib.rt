@@ -1,4 +1,5 @@
 // The public calls. Each but make begins with the check of the memory that it is lent.
+pub mod all;
 pub mod ask;
 pub mod cleanup;
 pub mod insert;

@@ -1,6 +1,6 @@
-// Query and all: the ids of the dots that a window asks for, in the row that the caller lends.
+// Query and collect_ids: the ids of the dots that a window asks for, in the row that the caller lends.
 ghost use Rattle.model.specs.Layout.{world};
-ghost use Rattle.model.specs.Calls.{Query, All};
+ghost use Rattle.model.specs.Calls.{Query, CollectIds};
 ghost use Rattle.model.specs.Answers.{queryReply};
 use model::State;
 use model::Window;
@@ -27,8 +27,8 @@ pub fn query(
     query_row(state, nodes, dots, rects, window, row)
 }
 
-// A query with the root's rectangle, of all inks.
-pub fn all(
+// The original's: a query with the root's rectangle, of all inks.
+pub fn collect_ids(
     state: State,
     nodes: &[u32],
     dots: &[u32],
@@ -36,7 +36,7 @@ pub fn all(
     marks: &mut [u8],
     row: &mut [u32],
 ) -> QueryAnswer
-    ensures { λ r. ⌜ All (world state (now (nodes .entry)) (now (dots .entry)) (now (rects .entry)) (now (marks .entry))) (now (row .entry))
+    ensures { λ r. ⌜ CollectIds (world state (now (nodes .entry)) (now (dots .entry)) (now (rects .entry)) (now (marks .entry))) (now (row .entry))
         (world state (now (nodes .exit)) (now (dots .exit)) (now (rects .exit)) (now (marks .exit))) (now (row .exit)) (queryReply r) ⌝ }
 {
     let refusal = check(state, nodes, dots, rects, marks);

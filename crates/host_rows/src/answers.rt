@@ -2,7 +2,7 @@
 ghost use mathlib.Core.Path.{_≡_};
 ghost use lib.ListN.{length};
 ghost use Rattle.model.specs.Answers.{makeReply, insertReply, insertState, yesNoReply, yesNoState, askReply, queryReply};
-ghost use Rattle.model.specs.Answers.{leavesReply, referencesReply, gridReply, patchReply, patchState};
+ghost use Rattle.model.specs.Answers.{listReply, referencesReply, gridReply, patchReply, patchState};
 ghost use Rattle.host_rows.specs.Rows.{CountFits, stateIn};
 ghost use Rattle.host_rows.specs.Tickets.{ticketRow};
 ghost use Rattle.host_rows.specs.Answers.{number, yesOrNo, splitsTold, hitsOpened, wide, resultOf, stateRow, madeRow, Out};
@@ -13,7 +13,7 @@ use crate::tickets::ticket_out;
 use model::answers::AskAnswer;
 use model::answers::GridAnswer;
 use model::answers::InsertAnswer;
-use model::answers::LeavesAnswer;
+use model::answers::ListAnswer;
 use model::answers::MakeAnswer;
 use model::answers::PatchAnswer;
 use model::answers::QueryAnswer;
@@ -105,7 +105,7 @@ pub fn patch_out(state: &mut [u32], answer: &mut [u32], done: PatchAnswer) -> u6
     }
 }
 
-// Of a query and of all: hits, opened.
+// Of a query and of collect_ids: hits, opened.
 pub fn query_out(answer: &mut [u32], done: QueryAnswer) -> u64
     requires { ⌜ length (now answer) ≡ 2 ⌝ }
     ensures { λ r. ⌜ Out hitsOpened (queryReply done) (now (answer .entry)) (now (answer .exit)) r ⌝ }
@@ -120,15 +120,15 @@ pub fn query_out(answer: &mut [u32], done: QueryAnswer) -> u64
     }
 }
 
-// Of leaves: how many, 0.
-pub fn leaves_out(answer: &mut [u32], done: LeavesAnswer) -> u64
+// Of all and of leaves: their number, 0.
+pub fn list_out(answer: &mut [u32], done: ListAnswer) -> u64
     requires { ⌜ length (now answer) ≡ 2 ⌝ }
-    ensures { λ r. ⌜ Out number (leavesReply done) (now (answer .entry)) (now (answer .exit)) r ⌝ }
+    ensures { λ r. ⌜ Out number (listReply done) (now (answer .entry)) (now (answer .exit)) r ⌝ }
 {
     match done {
-        LeavesAnswer::Refused(refusal) => refusal as u64,
-        LeavesAnswer::TooMany(many) => too_many(many),
-        LeavesAnswer::Listed(many) => {
+        ListAnswer::Refused(refusal) => refusal as u64,
+        ListAnswer::TooMany(many) => too_many(many),
+        ListAnswer::Listed(many) => {
             answer_out(answer, many, 0);
             0
         }

@@ -1,7 +1,7 @@
 -- What each exported call leaves in the rows that it is lent, by the model's statement of the call (§18).
 --     Lent         the rows: state, nodes, dots, rectangles, marks, answer
 --     Exported     THE PATTERN: refusal 1 where the host's own rows don't fit, else the call
---     Inserts, Asks, Places, Removes, CleansUp, Queries, ListsAll, ListsLeaves, CountsDots, Reports, Batches, LaysPatch, Makes, Checks
+--     Inserts, Asks, Places, Removes, CleansUp, Queries, CollectsIds, ListsAll, ListsLeaves, CountsDots, Reports, Batches, LaysPatch, Makes, Checks
 use mathlib.Core.Path.{_≡_}
 use mathlib.Core.List.{List, []}
 use mathlib.Core.Bool.{Bool, true, false}
@@ -18,7 +18,7 @@ use Rattle.model.specs.Layout.{World, world}
 use Rattle.model.specs.declared.answers.Asked.{Asked}
 use Rattle.model.specs.declared.answers.Found.{Found}
 use Rattle.model.specs.Calls.{Reply}
-use Rattle.model.specs.Calls.{Insert, Remove, Cleanup, Query, All, Leaves, References, GridReport, Make, Batch}
+use Rattle.model.specs.Calls.{Insert, Remove, Cleanup, Query, CollectIds, All, Leaves, References, GridReport, Make, Batch}
 use Rattle.model.specs.Patch.{patchFits, LayPatch}
 use Rattle.model.specs.Tickets.{Ask, Place}
 use Rattle.model.specs.declared.answers.MakeAnswer.{MakeAnswer}
@@ -89,8 +89,11 @@ Queries q l row l′ row′ result =
     Exported (rowsFit (l .state) (l .answer)) hitsOpened (λ (w : World) (ids : List ℕ) (w′ : World) (ids′ : List ℕ)
     (reply : Reply Found). Query w q ids w′ ids′ reply) l row l′ row′ result
 
+abbrev pub CollectsIds : Lent → List ℕ → Lent → List ℕ → ℕ → Type 0
+CollectsIds l row l′ row′ result = Exported (rowsFit (l .state) (l .answer)) hitsOpened CollectIds l row l′ row′ result
+
 abbrev pub ListsAll : Lent → List ℕ → Lent → List ℕ → ℕ → Type 0
-ListsAll l row l′ row′ result = Exported (rowsFit (l .state) (l .answer)) hitsOpened All l row l′ row′ result
+ListsAll l row l′ row′ result = Exported (rowsFit (l .state) (l .answer)) number All l row l′ row′ result
 
 abbrev pub ListsLeaves : Lent → List ℤ → Lent → List ℤ → ℕ → Type 0
 ListsLeaves l row l′ row′ result = Exported (rowsFit (l .state) (l .answer)) number Leaves l row l′ row′ result

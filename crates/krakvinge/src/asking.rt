@@ -1,15 +1,16 @@
-// The calls that leave the tree as it is: query, all, leaves, references, the grid report, and the check alone.
+// The calls that leave the tree as it is: query, collect_ids, all, leaves, references, the grid report, and the check alone.
 ghost use Rattle.host_rows.specs.Rows.{rectOf, gridOf};
-ghost use Rattle.krakvinge.specs.Exports.{lent, Queries, ListsAll, ListsLeaves, CountsDots, Reports, Checks};
+ghost use Rattle.krakvinge.specs.Exports.{lent, Queries, CollectsIds, ListsAll, ListsLeaves, CountsDots, Reports, Checks};
+use calls::all::all;
 use calls::leaves::leaves;
-use calls::query::all;
+use calls::query::collect_ids;
 use calls::query::query;
 use calls::references::references;
 use calls::report::grid_report;
 use geometry::aabb::AABB;
 use grid::grid::Grid;
 use host_rows::answers::grid_out;
-use host_rows::answers::leaves_out;
+use host_rows::answers::list_out;
 use host_rows::answers::query_out;
 use host_rows::answers::references_out;
 use host_rows::rows::rows_fit;
@@ -55,7 +56,30 @@ pub extern "C" fn krakvinge_query(
     query_out(answer, done)
 }
 
-// A query with the root's rectangle, of all inks.
+// The original's collect_ids: a query with the root's rectangle, of all inks.
+#[no_mangle]
+pub extern "C" fn krakvinge_collect_ids(
+    state: &[u32],
+    nodes: &[u32],
+    dots: &[u32],
+    rects: &[i32],
+    marks: &mut [u8],
+    ids: &mut [u32],
+    answer: &mut [u32],
+) -> u64
+    ensures { λ r. ⌜ CollectsIds (lent (now (state .entry)) (now (nodes .entry)) (now (dots .entry)) (now (rects .entry)) (now (marks .entry))
+        (now (answer .entry))) (now (ids .entry))
+        (lent (now (state .exit)) (now (nodes .exit)) (now (dots .exit)) (now (rects .exit)) (now (marks .exit)) (now (answer .exit))) (now (ids .exit)) r ⌝ }
+{
+    if !rows_fit(state, answer) {
+        return 1;
+    }
+    let before = state_in(state);
+    let done = collect_ids(before, nodes, dots, rects, marks, ids);
+    query_out(answer, done)
+}
+
+// The ids of all dots; the answer is their number.
 #[no_mangle]
 pub extern "C" fn krakvinge_all(
     state: &[u32],
@@ -75,7 +99,7 @@ pub extern "C" fn krakvinge_all(
     }
     let before = state_in(state);
     let done = all(before, nodes, dots, rects, marks, ids);
-    query_out(answer, done)
+    list_out(answer, done)
 }
 
 // Six numbers a leaf (§9.2); the answer is the number of leaves.
@@ -98,7 +122,7 @@ pub extern "C" fn krakvinge_leaves(
     }
     let before = state_in(state);
     let done = leaves(before, nodes, dots, rects, marks, row);
-    leaves_out(answer, done)
+    list_out(answer, done)
 }
 
 // The dots in all leaves; the answer is their number.

@@ -14,8 +14,8 @@ use Rattle.model.specs.declared.answers.AskAnswer.the-variants as ask
 use Rattle.model.specs.declared.answers.Found.{Found}
 use Rattle.model.specs.declared.answers.QueryAnswer.{QueryAnswer}
 use Rattle.model.specs.declared.answers.QueryAnswer.the-variants as query
-use Rattle.model.specs.declared.answers.LeavesAnswer.{LeavesAnswer}
-use Rattle.model.specs.declared.answers.LeavesAnswer.the-variants as leaves
+use Rattle.model.specs.declared.answers.ListAnswer.{ListAnswer}
+use Rattle.model.specs.declared.answers.ListAnswer.the-variants as list
 use Rattle.model.specs.declared.answers.ReferencesAnswer.{ReferencesAnswer}
 use Rattle.model.specs.declared.answers.ReferencesAnswer.the-variants as references
 use Rattle.model.specs.declared.answers.GridAnswer.{GridAnswer}
@@ -58,17 +58,17 @@ abbrev pub askReply : AskAnswer → Reply Asked
 askReply (ask.Refused k) = refused k
 askReply (ask.Told asked) = answered asked
 
--- query and all: the hits, whose ids the row begins with, and the nodes opened
+-- query and collect_ids: the hits, whose ids the row begins with, and the nodes opened
 abbrev pub queryReply : QueryAnswer → Reply Found
 queryReply (query.Refused k) = refused k
 queryReply (query.TooMany n) = tooMany n
 queryReply (query.Listed found) = answered found
 
--- leaves: how many there are
-abbrev pub leavesReply : LeavesAnswer → Reply ℕ
-leavesReply (leaves.Refused k) = refused k
-leavesReply (leaves.TooMany n) = tooMany n
-leavesReply (leaves.Listed n) = answered n
+-- all and leaves: how many ids, how many leaves there are
+abbrev pub listReply : ListAnswer → Reply ℕ
+listReply (list.Refused k) = refused k
+listReply (list.TooMany n) = tooMany n
+listReply (list.Listed n) = answered n
 
 -- references: the dots in all leaves
 abbrev pub referencesReply : ReferencesAnswer → Reply ℕ

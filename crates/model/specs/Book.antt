@@ -24,11 +24,11 @@ use Rattle.model.specs.declared.Dot.{Dot}
 use Rattle.model.specs.declared.Window.{Window}
 use Rattle.model.specs.declared.Ticket.{Ticket}
 use Rattle.model.specs.declared.patch.Patch.{Patch}
-use Rattle.model.specs.Dots.{isHit}
+use Rattle.model.specs.Dots.{isHit, anyDot}
 use Rattle.model.specs.Layout.{World}
 use Rattle.model.specs.declared.answers.Asked.{Asked}
 use Rattle.model.specs.declared.answers.Found.{Found}
-use Rattle.model.specs.Calls.{Reply, refused, tooMany, answered, Make, Insert, Remove, Cleanup, Query}
+use Rattle.model.specs.Calls.{Reply, refused, tooMany, answered, Make, Insert, Remove, Cleanup, Query, All}
 use Rattle.model.specs.Patch.{patchDots, LayPatch}
 use Rattle.model.specs.Tickets.{Ask, Place}
 
@@ -39,6 +39,7 @@ pub data Event : Type 0 where
   remove : ℕ → AABB → Reply Bool → Event
   cleanup : Reply Bool → Event
   query : Window → List ℕ → List ℕ → Reply Found → Event
+  all : List ℕ → List ℕ → Reply ℕ → Event
   patch : Patch → Reply ℕ → Event
   ask : Dot → Reply Asked → Event
   place : Ticket → Reply ℕ → Event
@@ -49,6 +50,7 @@ Happens w (insert dot reply) w′ = Insert w dot w′ reply
 Happens w (remove id r reply) w′ = Remove w id r w′ reply
 Happens w (cleanup reply) w′ = Cleanup w w′ reply
 Happens w (query q row row′ reply) w′ = Query w q row w′ row′ reply
+Happens w (all row row′ reply) w′ = All w row w′ row′ reply
 Happens w (patch p reply) w′ = LayPatch w p w′ reply
 Happens w (ask dot reply) w′ = Ask w dot w′ reply
 Happens w (place t reply) w′ = Place w t w′ reply
@@ -64,6 +66,7 @@ callsIn (insert dot reply) = 1
 callsIn (remove id r reply) = 1
 callsIn (cleanup reply) = 1
 callsIn (query q row row′ reply) = 1
+callsIn (all row row′ reply) = 1
 callsIn (patch p reply) = length (patchDots p)
 callsIn (ask dot reply) = 1
 callsIn (place t reply) = 1
@@ -99,6 +102,7 @@ entered b (insert dot reply) = cond (accepted reply) (dot ∷ b) b
 entered b (remove id r reply) = cond (saidYes reply) (without id b) b
 entered b (cleanup reply) = b
 entered b (query q row row′ reply) = b
+entered b (all row row′ reply) = b
 entered b (patch p reply) = cond (accepted reply) (patchDots p ++ b) b
 entered b (ask dot reply) = b
 entered b (place t reply) = cond (accepted reply) (t .dot ∷ b) b
@@ -126,6 +130,7 @@ Fine b (insert dot reply) = accepted reply ≡ true → ¬ Live (dot .id) b
 Fine b (remove id r reply) = Unit {0}
 Fine b (cleanup reply) = Unit {0}
 Fine b (query q row row′ reply) = Unit {0}
+Fine b (all row row′ reply) = Unit {0}
 Fine b (patch p reply) = accepted reply ≡ true → (d : Dot) → Has d (patchDots p) → ¬ Live (d .id) b
 Fine b (ask dot reply) = Unit {0}
 Fine b (place t reply) = accepted reply ≡ true → ¬ Live (t .dot .id) b
@@ -151,6 +156,7 @@ Still (insert dot reply) = accepted reply ≡ false
 Still (remove id r reply) = saidYes reply ≡ false
 Still (cleanup reply) = Unit {0}
 Still (query q row row′ reply) = Unit {0}
+Still (all row row′ reply) = Unit {0}
 Still (patch p reply) = laidBy reply ≡ 0
 Still (ask dot reply) = Unit {0}
 Still (place t reply) = accepted reply ≡ false
@@ -165,27 +171,31 @@ cleanups (insert dot reply ∷ es) = cleanups es
 cleanups (remove id r reply ∷ es) = cleanups es
 cleanups (cleanup reply ∷ es) = 1 + cleanups es
 cleanups (query q row row′ reply ∷ es) = cleanups es
+cleanups (all row row′ reply ∷ es) = cleanups es
 cleanups (patch p reply ∷ es) = cleanups es
 cleanups (ask dot reply ∷ es) = cleanups es
 cleanups (place t reply ∷ es) = cleanups es
 
 -- ---- the demand
 
--- the dots of the book that a query with q lists
+-- §12.7, §12.13: the ids of all dots of the book that pass the test, no others, none twice
+pub record Exactly (test : Dot → Bool) (b : List Dot) (listed : List ℕ) : Type 0 where
+  pub once : (id : ℕ) → count id listed ≤ 1
+  pub onlyThose : (id : ℕ) → 1 ≤ count id listed → (d : Dot) × Has d b × (d .id ≡ id) × (test d ≡ true)
+  pub allThose : (d : Dot) → Has d b → test d ≡ true → 1 ≤ count (d .id) listed
+
+-- the dots of the book that a query with q lists: those of its inks that intersect
 abbrev pub meeting : Window → List Dot → List Dot
 meeting q b = filter (isHit q) b
-
--- §12.7: all live ids of the query's inks that intersect, no others, none twice
-pub record Exactly (q : Window) (b : List Dot) (listed : List ℕ) : Type 0 where
-  pub once : (id : ℕ) → count id listed ≤ 1
-  pub onlyThose : (id : ℕ) → 1 ≤ count id listed → (d : Dot) × Has d b × (d .id ≡ id) × (isHit q d ≡ true)
-  pub allThose : (d : Dot) → Has d b → isHit q d ≡ true → 1 ≤ count (d .id) listed
 
 -- What is promised of a world w after a list of `made` calls whose book is b. Where refusal 16 could be in the way, the calls are few (§12.12).
 pub record Promise (s : Settings) (made : ℕ) (w : World) (b : List Dot) : Type 0 where
   -- §12.7: the row has a word for each id to be listed, and then begins with the ids, as many as the answer reports
   pub lists : (q : Window) (row row′ : List ℕ) (w′ : World) (reply : Reply Found) → Query w q row w′ row′ reply → length (meeting q b) ≤ length row
-      → (a : Found) × (reply ≡ answered a) × Exactly q b (take (a .hits) row′)
+      → (a : Found) × (reply ≡ answered a) × Exactly (isHit q) b (take (a .hits) row′)
+  -- §12.13: the row has a word for each live dot, and then begins with their ids
+  pub listsAll : (row row′ : List ℕ) (w′ : World) (reply : Reply ℕ) → All w row w′ row′ reply → length b ≤ length row
+      → (reply ≡ answered (length b)) × Exactly anyDot b (take (length b) row′)
   -- §12.8: a live id, by the rectangle of its insert: yes
   pub removesLive : (d : Dot) (w′ : World) (reply : Reply Bool) → Remove w (d .id) (d .rect) w′ reply → Has d b → Few (made + 1)
       → reply ≡ answered true
@@ -211,6 +221,7 @@ Tells t n (insert dot reply) = ⊥
 Tells t n (remove id r reply) = ⊥
 Tells t n (cleanup reply) = ⊥
 Tells t n (query q row row′ reply) = ⊥
+Tells t n (all row row′ reply) = ⊥
 Tells t n (patch p reply) = ⊥
 Tells t n (ask dot reply) = reply ≡ answered (record { splits = n; ticket = t })
 Tells t n (place u reply) = ⊥

@@ -4,7 +4,8 @@
 --     Exit         what a call leaves: the world, the row, the reply
 --     Obeys        THE PATTERN: for every world, what a call that follows a rule leaves
 --     counted      refusal 16, said once for every call that changes the tree
---     Make, Insert, Remove, Cleanup, Query, Leaves, All, References, GridReport, Batch
+--     listing      refusal 8, said once for the calls that list ids
+--     Make, Insert, Remove, Cleanup, Query, CollectIds, All, Leaves, References, GridReport, Batch
 use mathlib.Core.Path.{_≡_}
 use mathlib.Core.List.{List, [], _∷_, _++_}
 use mathlib.Core.Bool.{Bool, true, false, not, cond, _&&_, _||_}
@@ -26,7 +27,7 @@ use Rattle.grid.specs.Grids.{windows, sizesFit, cornerFits}
 use Rattle.model.specs.Dots.{goodInk, ofAllInks}
 use Rattle.model.specs.Trees.{size}
 use Rattle.model.specs.Shapes.{Shape, fresh, inserted, splitsMade, splitsNeeded, removed, foundBy}
-use Rattle.model.specs.Shapes.{cleaned, cleans, listed, opensFor, leaves, leafNumber, references}
+use Rattle.model.specs.Shapes.{cleaned, cleans, listed, opensFor, allIds, leaves, leafNumber, references}
 use Rattle.model.specs.Grid.{gridCounts, gridTotal}
 use Rattle.model.specs.Layout.{World, groupsOf, placesOf, lengthsRight, layout, cleared, Holds}
 
@@ -120,15 +121,24 @@ cleanupRule x = yesOrNo (cleans x) (cleaned x) x
 unfoldable pub referencesRule : Shape → Verdict ℕ ℕ
 referencesRule x = accept x [] (references x)
 
--- §8, §11.5: refusal 8 if there are more ids than words in the row
+-- §11.5: refusal 8 if there are more ids than words in the row; else the ids, and the answer
+abbrev pub listing : {A : Type 0} → ℕ → Shape → List ℕ → A → Verdict ℕ A
+listing room x ids a = cond (ltb room (length ids)) (overflow (length ids)) (accept x ids a)
+
+-- §8.4
+abbrev pub foundIn : Window → Shape → Found
+foundIn q x = record { hits = length (listed q x); opened = opensFor (q .rect) x }
+
 unfoldable pub queryRule : Window → ℕ → Shape → Verdict ℕ Found
-queryRule q room x =
-    let ids = listed q x in
-    cond (ltb room (length ids)) (overflow (length ids)) (accept x ids (record { hits = length ids; opened = opensFor (q .rect) x }))
+queryRule q room x = listing room x (listed q x) (foundIn q x)
 
 -- §8.5: a query with the root's rectangle, of all inks
-unfoldable pub allRule : ℕ → Shape → Verdict ℕ Found
-allRule room x = queryRule (ofAllInks (rootRect (x .settings))) room x
+unfoldable pub collectIdsRule : ℕ → Shape → Verdict ℕ Found
+collectIdsRule room x = queryRule (ofAllInks (rootRect (x .settings))) room x
+
+-- §8.7: every dot, and how many there are
+unfoldable pub allRule : ℕ → Shape → Verdict ℕ ℕ
+allRule room x = listing room x (allIds x) (length (allIds x))
 
 -- §9, §11.5: a leaf takes six words of the row
 unfoldable pub leavesRule : ℕ → Shape → Verdict ℤ ℕ
@@ -199,11 +209,14 @@ References w w′ reply = Obeys true referencesRule w [] (exit w′ [] reply)
 unfoldable pub Query : World → Window → List ℕ → World → List ℕ → Reply Found → Type 0
 Query w q row w′ row′ reply = Obeys true (queryRule q (length row)) w row (exit w′ row′ reply)
 
+unfoldable pub CollectIds : World → List ℕ → World → List ℕ → Reply Found → Type 0
+CollectIds w row w′ row′ reply = Obeys true (collectIdsRule (length row)) w row (exit w′ row′ reply)
+
+unfoldable pub All : World → List ℕ → World → List ℕ → Reply ℕ → Type 0
+All w row w′ row′ reply = Obeys true (allRule (length row)) w row (exit w′ row′ reply)
+
 unfoldable pub Leaves : World → List ℤ → World → List ℤ → Reply ℕ → Type 0
 Leaves w row w′ row′ reply = Obeys true (leavesRule (length row)) w row (exit w′ row′ reply)
-
-unfoldable pub All : World → List ℕ → World → List ℕ → Reply Found → Type 0
-All w row w′ row′ reply = Obeys true (allRule (length row)) w row (exit w′ row′ reply)
 
 unfoldable pub GridReport : World → Grid → List ℕ → World → List ℕ → Reply ℕ → Type 0
 GridReport w g row w′ row′ reply = Obeys true (gridRule g (length row)) w row (exit w′ row′ reply)

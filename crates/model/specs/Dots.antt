@@ -3,9 +3,10 @@
 --     shows        whether its ink is one of the query's
 --     isHit        whether a query lists it
 --     allInks, ofAllInks   the mask of all inks; a query of all inks
+--     anyDot       what every dot passes
 --     matches      whether a remove takes it
 --     zeroDot      what a free place holds
-use mathlib.Core.Bool.{Bool, _&&_}
+use mathlib.Core.Bool.{Bool, true, _&&_}
 use Prim.Native.Nat.{ℕ}
 use lib.Dec.{eqb, leb}
 use Rattle.geometry.specs.declared.aabb.AABB.{AABB}
@@ -37,6 +38,10 @@ ofAllInks r = record { rect = r; inks = allInks }
 -- §8.3: its rectangle intersects the query's, and its ink is one of the query's
 unfoldable pub isHit : Window → Dot → Bool
 isHit q d = intersects (q .rect) (d .rect) && shows q d
+
+-- §8.7: all lists every dot
+abbrev pub anyDot : Dot → Bool
+anyDot d = true
 
 -- §6.2: it has the id, whatever its rectangle
 unfoldable pub matches : ℕ → Dot → Bool

@@ -5,6 +5,9 @@
 --     All P xs         P of every element
 --     upTo n           0, 1 .. n - 1
 --     count k xs       how often k stands in xs
+--     Permutation xs ys    each number stands as often in both
+--     Sublist xs ys    xs is ys with some elements left out
+use mathlib.Core.Path.{_≡_}
 use mathlib.Core.List.{List, [], _∷_, _++_}
 use mathlib.Core.Bool.{Bool, cond}
 use Prim.Native.Nat.{ℕ, zero, suc}
@@ -32,3 +35,11 @@ upTo n = joinBelow n (λ k. k ∷ [])
 
 abbrev pub count : ℕ → List ℕ → ℕ
 count k xs = sumOver (indicator k) xs
+
+abbrev pub Permutation : List ℕ → List ℕ → Type 0
+Permutation xs ys = (k : ℕ) → count k xs ≡ count k ys
+
+pub data Sublist {A : Type 0} : List A → List A → Type 0 where
+  empty : Sublist [] []
+  taken : {x : A} {xs ys : List A} → Sublist xs ys → Sublist (x ∷ xs) (x ∷ ys)
+  leftOut : {y : A} {xs ys : List A} → Sublist xs ys → Sublist xs (y ∷ ys)

@@ -5,7 +5,7 @@
 --     reshaped     one change more, which every call that changes the tree makes
 --     inserted, removed, cleaned   the shapes that the calls leave; splitsMade, foundBy, cleans: what they answer
 --     splitsNeeded the splits that refusal 7 asks about
---     listed, opensFor, leaves, references     what the reading calls answer
+--     listed, opensFor, allIds, leaves, references     what the reading calls answer
 use mathlib.Core.Path.{_≡_}
 use mathlib.Core.List.{List, [], _∷_, map}
 use mathlib.Core.Bool.{Bool, true, not, cond}
@@ -22,7 +22,7 @@ use Rattle.model.specs.declared.Dot.{Dot}
 use Rattle.model.specs.declared.Window.{Window}
 use Rattle.model.specs.Lists.{All, upTo, count}
 use Rattle.model.specs.Dots.{acceptableDot}
-use Rattle.model.specs.Trees.{Placed, Tree, leaf, branch, groupCount, placeCount, AllDots, size}
+use Rattle.model.specs.Trees.{Placed, Tree, leaf, branch, groupCount, placeCount, AllDots, size, dots, idOf}
 use Rattle.model.specs.Insert.{Grown, routeDot, insertAt}
 use Rattle.model.specs.Remove.{removeSays, removeAt, removePlace}
 use Rattle.model.specs.Cleanup.{isZero, cleanTree, freedBy, turned}
@@ -125,10 +125,14 @@ cleaned x = reshaped x (cleanTree (x .tree)) (freedBy (x .tree) (x .freeGroups))
 
 -- Query (§8): the ids, and the nodes opened
 unfoldable pub listed : Window → Shape → List ℕ
-listed q x = map (λ d. d .dot .id) (hits q (root x) (x .tree))
+listed q x = map idOf (hits q (root x) (x .tree))
 
 unfoldable pub opensFor : AABB → Shape → ℕ
 opensFor q x = opened q (root x) (x .tree)
+
+-- All (§8.7): the ids of all dots; `dots` has their order
+unfoldable pub allIds : Shape → List ℕ
+allIds x = map idOf (dots (x .tree))
 
 -- Leaves (§9.1, §9.2) and references (§9.3)
 unfoldable pub leaves : Shape → List ℤ

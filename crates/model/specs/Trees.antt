@@ -4,6 +4,7 @@
 --     sumDots, sumGroups   a weight, summed over the dots or the groups; a count is the sum of an indicator
 --     AllDots      what holds of every dot
 --     dots         all dots, in the order of the query's walk
+--     idOf         the id of a dot that stands in the tree
 --     Shallow      how high a tree is at most
 use mathlib.Core.List.{List}
 use Prim.Native.Nat.{ℕ, zero, suc, _+_, _*_, _<_}
@@ -54,6 +55,9 @@ AllDots P (branch g f) = (i : ℕ) → i < 5 → AllDots P (f i)
 abbrev pub dots : Tree → List Placed
 dots (leaf chain) = chain
 dots (branch g f) = joinBelow 5 (λ i. dots (f i))
+
+abbrev pub idOf : Placed → ℕ
+idOf d = d .dot .id
 
 -- a tree at most n branches high
 abbrev pub Shallow : ℕ → Tree → Type 0

@@ -18,13 +18,13 @@ use Rattle.geometry.specs.Rectangles.{flat, intersects, middle, within, inverte
 use Rattle.geometry.specs.Settings.{rootOf, W, bitsWithin, bitLength, halvings, D, contains, rootRect}
 use Rattle.geometry.specs.Cells.{routeCell, mayDivide, rootCell, rootData, childCentre, quarterCell, childCell, childData, quadrant, route, bothTests, opens}
 use Rattle.model.specs.Shapes.{Shape, fresh, inserted, splitsMade, splitsNeeded, removed, foundBy, cleaned, cleans}
-use Rattle.model.specs.Shapes.{listed, opensFor, leaves as leafRow, leafNumber, references as dotCount}
+use Rattle.model.specs.Shapes.{listed, opensFor, allIds, leaves as leafRow, leafNumber, references as dotCount}
 use Rattle.model.specs.Layout.{none, branchMark, layout}
 use Rattle.model.specs.declared.Dot.{Dot}
 use Rattle.model.specs.declared.answers.Asked.{Asked}
 use Rattle.model.specs.declared.answers.Found.{Found}
 use Rattle.model.specs.Calls.{Verdict, refuse, overflow, accept, recorded, refusedWord, yesNo, largestCount, insertVerdict, insertRule}
-use Rattle.model.specs.Calls.{removeRule, cleanupRule, queryRule, allRule, leavesRule, referencesRule}
+use Rattle.model.specs.Calls.{removeRule, cleanupRule, queryRule, collectIdsRule, allRule, leavesRule, referencesRule}
 use Rattle.model.specs.Tickets.{askRule, placeRule}
 use Rattle.arithmetic.specs.Ints.{maxZ, minZ}
 use Rattle.arithmetic.specs.Bits.{bitAt}
@@ -63,6 +63,8 @@ pub data Line : Type 0 where
   remove : ℕ → AABB → ℕ → Line
   cleanup : ℕ → Line
   all : List ℕ → Line
+  -- the ids, and the nodes opened
+  collectIds : List ℕ → ℕ → Line
   -- a rectangle and a mask; the ids, and the nodes opened
   queryInks : AABB → ℕ → List ℕ → ℕ → Line
   references : ℕ → Line
@@ -110,7 +112,7 @@ sameList [] (y ∷ ys) = false
 sameList (x ∷ xs) [] = false
 sameList (x ∷ xs) (y ∷ ys) = eqb x y && sameList xs ys
 
-abbrev lists : Verdict ℕ Found → List ℕ → Bool
+abbrev lists : {A : Type 0} → Verdict ℕ A → List ℕ → Bool
 lists (refuse k) ids = false
 lists (overflow n) ids = false
 lists (accept x row a) ids = sameList row ids
@@ -160,6 +162,7 @@ passLines x (insertInk id r ink word ∷ ls) =
 passLines x (remove id r word ∷ ls) = let v = recorded yesNo x (removeRule id r x) in eqb (v .word) word && passLines (v .shape) ls
 passLines x (cleanup word ∷ ls) = let v = recorded yesNo x (cleanupRule x) in eqb (v .word) word && passLines (v .shape) ls
 passLines x (all ids ∷ ls) = lists (allRule room x) ids && passLines x ls
+passLines x (collectIds ids opened ∷ ls) = let v = collectIdsRule room x in lists v ids && opensJust v opened && passLines x ls
 passLines x (words nodes dots ∷ ls) = sameList (layout x .nodes) nodes && sameList (layout x .dots) dots && passLines x ls
 passLines x (freeGroups gs ∷ ls) = sameList (x .freeGroups) gs && passLines x ls
 passLines x (ask id r word count ∷ ls) = tells (askRule (plain id r) x) word count && passLines x ls
@@ -219,7 +222,7 @@ table =
     ∷ meet (rect 9 1 10 2) (rect 10 0 10 4) true
     -- d
     ∷ contained (rect 16 1 17 2) true
-    ∷ calls 2 2 (insert 1 (rect 16 1 17 2) 0 ∷ all [] ∷ [])
+    ∷ calls 2 2 (insert 1 (rect 16 1 17 2) 0 ∷ collectIds [] 1 ∷ all (1 ∷ []) ∷ [])
     -- e, f; the last finds a cleanup that takes off more than a level
     ∷ calls 1 2 (
     insert 1 (rect 1 1 2 2) 0 ∷ insert 2 (rect 3 3 3 3) 2 ∷ remove 1 (rect 1 1 2 2) 1 ∷ remove 2 (rect 3 3 3 3) 1
@@ -232,7 +235,7 @@ table =
     ∷ []
 
 -- others: the lines of §13.7; the mistakes of §14.2 that `table` has not; the order of freed groups; every word after the three inserts of §13.7, with
--- G = 1; inks; the count of changes, asks and placings
+-- G = 1; inks; the count of changes, asks and placings; all
 abbrev pub further : List Trial
 further =
     deepest 2
@@ -298,19 +301,27 @@ further =
     insert 1 (rect 1 1 1 1) 0 ∷ insert 2 (rect 15 15 15 15) 1 ∷ remove 1 (rect 1 1 1 1) 1 ∷ remove 2 (rect 15 15 15 15) 1 ∷ recounted largestCount
     ∷ cleanup (refusedWord 16) ∷ freeGroups [] ∷ recounted 0 ∷ cleanup 1 ∷ freeGroups (0 ∷ []) ∷ changes 1 ∷ []
     )
+    -- all: child 0 first, whatever the ink, an id as often as it stands, the dot on the edge too; collect_ids lists the others, and opens every node
+    ∷ calls 2 8 (
+    all [] ∷ collectIds [] 1
+    ∷ three (
+    insertInk 4 (rect 16 1 17 2) 15 0 ∷ insert 1 (rect 1 9 2 10) 0 ∷ all (3 ∷ 1 ∷ 4 ∷ 2 ∷ 1 ∷ []) ∷ collectIds (3 ∷ 1 ∷ 2 ∷ 1 ∷ []) 6 ∷ changes 5
+    ∷ references 5 ∷ remove 3 (rect 7 7 9 9) 1 ∷ all (1 ∷ 4 ∷ 2 ∷ 1 ∷ []) ∷ []
+    )
+    )
     ∷ []
 
 pub all-pass : passAll table ≡ true
 unfolding flat intersects middle within inverted near farOut W bitsWithin bitLength halvings D contains rootRect
     rootCell rootData childCentre quarterCell childCell childData quadrant routeCell bothTests opens mayDivide
-    fresh inserted splitsMade splitsNeeded removed foundBy cleaned cleans listed opensFor
-    largestCount insertVerdict insertRule removeRule cleanupRule queryRule allRule goodInk shows bitAt isHit matches indicator changed maxZ minZ
+    fresh inserted splitsMade splitsNeeded removed foundBy cleaned cleans listed opensFor allIds
+    largestCount insertVerdict insertRule removeRule cleanupRule queryRule collectIdsRule allRule goodInk shows bitAt isHit matches indicator changed maxZ minZ
 all-pass = refl
 
 pub further-pass : passAll further ≡ true
 unfolding flat intersects middle within inverted near farOut W bitsWithin bitLength halvings D contains rootRect
     rootCell rootData childCentre quarterCell childCell childData quadrant routeCell bothTests opens mayDivide
-    fresh inserted splitsMade splitsNeeded removed foundBy cleaned cleans listed opensFor leafRow leafNumber dotCount
-    largestCount insertVerdict insertRule removeRule cleanupRule queryRule allRule leavesRule referencesRule askRule placeRule
+    fresh inserted splitsMade splitsNeeded removed foundBy cleaned cleans listed opensFor allIds leafRow leafNumber dotCount
+    largestCount insertVerdict insertRule removeRule cleanupRule queryRule collectIdsRule allRule leavesRule referencesRule askRule placeRule
     goodInk shows bitAt isHit matches indicator changed maxZ minZ layout none branchMark
 further-pass = refl

@@ -45,8 +45,8 @@ pub enum QueryAnswer {
     Listed(Found),
 }
 
-// Refusal 8, with how many leaves there are; or how many the row now begins with.
-pub enum LeavesAnswer {
+// Of all and of leaves: refusal 8, with how many ids or leaves there are; or how many the row now begins with.
+pub enum ListAnswer {
     Refused(u32),
     TooMany(u32),
     Listed(u32),

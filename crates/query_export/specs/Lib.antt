@@ -1,3 +1,3 @@
--- The query without the check.
---     Answers      what it leaves in the rows that it is lent
+-- The query and all without the check.
+--     Answers      what they leave in the rows that they are lent
 pub mod Answers

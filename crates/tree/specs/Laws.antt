@@ -11,6 +11,7 @@
 --     Readings     the rows read as memory; a store into a row
 --     Routes       the way of a rectangle to its leaf
 --     Descent      the walk down to it
+--     Children     joins over the last children of a group
 --     Chains, Leaves, Trees        a chain, a leaf, a tree in the rows
 --     Operations   the exit of an operation
 pub mod Frames
@@ -23,6 +24,7 @@ pub mod Cleanup
 pub mod Readings
 pub mod Routes
 pub mod Descent
+pub mod Children
 pub mod Chains
 pub mod Leaves
 pub mod Trees

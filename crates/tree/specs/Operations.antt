@@ -1,6 +1,6 @@
 -- What the single operations, which make no check, ask and leave.
 --     IsTree       the words are those of a tree, whatever the marks
---     HasTree, HasRects    the nodes are, with some dots; the rectangles are, with some nodes and ids
+--     HasTree, HasDots, HasRects   the nodes are, with some dots; nodes and dots, with some rectangles; the rectangles, with some nodes and dots
 --     CarriedOut   what an operation that follows a rule leaves
 use mathlib.Core.Path.{_≡_}
 use mathlib.Core.List.{List, []}
@@ -20,6 +20,11 @@ pub record IsTree (s : State) (nodes dots : List ℕ) (rects : List ℤ) : Type 
 -- the nodes are those of a tree, with some dots
 pub record HasTree (s : State) (nodes : List ℕ) : Type 0 where
   pub dots : List ℕ
+  pub rects : List ℤ
+  pub tree : IsTree s nodes dots rects
+
+-- the nodes and the dots' ids, links and inks are those of a tree, with some rectangles
+pub record HasDots (s : State) (nodes dots : List ℕ) : Type 0 where
   pub rects : List ℤ
   pub tree : IsTree s nodes dots rects
 

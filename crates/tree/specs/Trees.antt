@@ -1,9 +1,9 @@
 -- A tree in the rows, as the walks meet it, and its nodes.
 --     sumNodes, nodeCount  a weight summed over the nodes; how often a node stands in the tree
 --     nodeTotal    how many nodes the tree has
---     overGroup    a weight summed over the nodes of a group; sumLast: over its last children
+--     overGroup    a weight summed over the nodes of a group; sumLast: over its last children; joinLast: lists joined over them
 --     TreeStands   the tree stands at a node, in rows that have its nodes and places
-use mathlib.Core.List.{List}
+use mathlib.Core.List.{List, [], _++_}
 use Prim.Native.Nat.{ℕ, zero, suc, _+_, _-_, _≤_, _<_}
 use lib.IntN.{ℤ}
 use Rattle.model.specs.Sums.{indicator, sumBelow}
@@ -26,6 +26,10 @@ nodeTotal (branch g f) = 1 + sumBelow 5 (λ i. nodeTotal (f i))
 abbrev pub sumLast : ℕ → (ℕ → ℕ) → ℕ
 sumLast zero f = 0
 sumLast (suc left) f = f (5 - suc left) + sumLast left f
+
+abbrev pub joinLast : {A : Type 0} → ℕ → (ℕ → List A) → List A
+joinLast zero f = []
+joinLast (suc left) f = f (5 - suc left) ++ joinLast left f
 
 -- the nodes of a group
 abbrev pub overGroup : (ℕ → ℕ) → ℕ → ℕ

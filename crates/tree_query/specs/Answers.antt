@@ -9,14 +9,11 @@ use lib.IntN.{ℤ}
 use lib.ListN.{length, replicate}
 use Rattle.model.specs.declared.Window.{Window}
 use Rattle.model.specs.declared.State.{State}
-use Rattle.model.specs.Shapes.{Shape, listed, opensFor, leaves}
+use Rattle.model.specs.Shapes.{Shape, listed, leaves}
 use Rattle.model.specs.Layout.{world, Holds}
 use Rattle.model.specs.declared.answers.Found.{Found}
-use Rattle.model.specs.Calls.{Reply, exit, carriedOut, queryRule, leavesRule}
+use Rattle.model.specs.Calls.{Reply, exit, carriedOut, foundIn, queryRule, leavesRule}
 use Rattle.tree_query.specs.Rows.{keptAll}
-
-abbrev pub foundIn : Window → Shape → Found
-foundIn q x = record { hits = length (listed q x); opened = opensFor (q .rect) x }
 
 unfoldable pub Met : State → Window → List ℕ → List ℕ → List ℤ → ℕ → List ℕ → List ℕ → Found → Type 0
 Met s q nodes dots rects room row row′ r =

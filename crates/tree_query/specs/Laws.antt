@@ -1,6 +1,5 @@
 -- Laws of the reading calls.
 --     Rows         the written row: its length, two lists of words, room for all
---     Children     joins over the last children of a group
 --     Found        one walk after another; no more is found than there is
 --     Chains       the loop over a chain
 --     Nodes        a node: its chain, or its group
@@ -10,7 +9,6 @@
 --     LeafGroups   over the leaves: a group, child by child
 --     Leaves       over the leaves of a whole tree, and the call's answer
 pub mod Rows
-pub mod Children
 pub mod Found
 pub mod Chains
 pub mod Nodes

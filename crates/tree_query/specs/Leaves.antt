@@ -14,9 +14,8 @@ use Rattle.model.specs.Trees.{Tree, leaf, branch, childNode, Shallow, size}
 use Rattle.model.specs.Query.{leavesOf}
 use Rattle.model.specs.Layout.{branchMark}
 use Rattle.model.specs.Memory.{firstAt, countAt}
-use Rattle.tree.specs.Trees.{NodesIn, nodeTotal, sumLast}
+use Rattle.tree.specs.Trees.{NodesIn, nodeTotal, sumLast, joinLast}
 use Rattle.tree_query.specs.Rows.{keptAll}
-use Rattle.tree_query.specs.Walks.{joinLast}
 
 -- §9.2
 abbrev pub wordsOf : NodeData → ℕ → List ℤ

@@ -1,12 +1,11 @@
 -- What the query's walk (§8.2, §8.3) asks of the words, and what it leaves.
---     joinLast                     over the last children of a group
 --     chainHits, groupHits, groupOpened    what a walk lists and opens
 --     nextOpened                   the first of the children left that is opened
 --     after, rowAfter, Left        what it has found, and the row, once some dots are listed and some nodes opened
 --     CanGrow                      the counts may still grow by so much
 --     ChainWalk, ChainWalked, NodeWalk, NodeWalked, GroupWalk, GroupWalked     the contracts of the walks
 use mathlib.Core.Path.{_≡_}
-use mathlib.Core.List.{List, [], _++_, map}
+use mathlib.Core.List.{List, [], map}
 use mathlib.Core.Bool.{Bool, cond, _||_}
 use Prim.Native.Nat.{ℕ, zero, suc, _+_, _-_, _≤_, _<_}
 use lib.IntN.{ℤ}
@@ -26,14 +25,9 @@ use Rattle.model.specs.Trees.{Placed, Tree, childNode, size}
 use Rattle.model.specs.Query.{hits, opened}
 use Rattle.model.specs.Layout.{none}
 use Rattle.model.specs.Memory.{read, Chained}
-use Rattle.tree.specs.Trees.{InRows, nodeTotal, sumLast, TreeStands}
+use Rattle.tree.specs.Trees.{InRows, nodeTotal, sumLast, joinLast, TreeStands}
 use Rattle.model.specs.declared.answers.Found.{Found}
 use Rattle.tree_query.specs.Rows.{kept, keptAll}
-
--- the children from 5 - left on, in order
-abbrev pub joinLast : {A : Type 0} → ℕ → (ℕ → List A) → List A
-joinLast zero f = []
-joinLast (suc left) f = f (5 - suc left) ++ joinLast left f
 
 -- ---- what a walk meets
 

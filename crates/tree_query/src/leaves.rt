@@ -3,14 +3,14 @@ ghost use mathlib.Core.Path.{_≡_};
 ghost use Prim.Native.Nat.{_+_, _≤_};
 ghost use lib.ListN.{length};
 ghost use Rattle.tree.specs.Operations.{HasTree};
-ghost use Rattle.model.specs.Answers.{leavesReply};
+ghost use Rattle.model.specs.Answers.{listReply};
 ghost use Rattle.tree_query.specs.Rows.{kept, keptAll};
 ghost use Rattle.tree_query.specs.Answers.{LeavesMet, LeavesListed};
 ghost use Rattle.tree_query.specs.Leaves.{wordsOf, LeafWalk, LeafGroup, LeafWalked, LeafGroupWalked};
 use geometry::node_data::NodeData;
 use memory::node::node_at;
 use model::State;
-use model::answers::LeavesAnswer;
+use model::answers::ListAnswer;
 
 // Writes a number at a position of the row, where there is room.
 fn keep_number(row: &mut [i32], room: usize, at: usize, number: i32)
@@ -94,17 +94,17 @@ fn list_leaves(state: State, nodes: &[u32], row: &mut [i32], room: usize) -> usi
 }
 
 // Lists the leaves, where they fit the row: they are counted first.
-pub fn leaves_row(state: State, nodes: &[u32], row: &mut [i32]) -> LeavesAnswer
+pub fn leaves_row(state: State, nodes: &[u32], row: &mut [i32]) -> ListAnswer
     requires { ⌜ HasTree state (now nodes) ⌝ }
-    ensures { λ r. ⌜ LeavesListed state (now (nodes .entry)) (now (row .entry)) (now (row .exit)) (leavesReply r) ⌝ }
+    ensures { λ r. ⌜ LeavesListed state (now (nodes .entry)) (now (row .entry)) (now (row .exit)) (listReply r) ⌝ }
 {
     let mut none = [0i32; 1];
     let words = list_leaves(state, nodes, &mut none, 0);
     let number = (words / 6) as u32;
     let room = row.len();
     if room < words {
-        return LeavesAnswer::TooMany(number);
+        return ListAnswer::TooMany(number);
     }
     list_leaves(state, nodes, row, room);
-    LeavesAnswer::Listed(number)
+    ListAnswer::Listed(number)
 }

@@ -1,7 +1,7 @@
 -- Each call obeys its statement: a refusal of the check is handed back, else the operation without the check says what is left.
 --     insert-refused, insert-answered; ask-refused, ask-answered; place-refused, place-answered
 --     remove-refused, remove-answered; cleanup-refused, cleanup-answered
---     query-refused, query-answered; all-refused, all-answered; leaves-refused, leaves-answered
+--     query-refused, query-answered; collect-refused, collect-answered; all-refused, all-answered; leaves-refused, leaves-answered
 --     references-refused, references-counted; grid-refused, grid-answered
 use mathlib.Core.Path.{_≡_, ap, _∙_, subst}
 use mathlib.Core.List.{List, []}
@@ -23,14 +23,15 @@ use Rattle.model.specs.Dots.{ofAllInks}
 use Rattle.model.specs.Shapes.{references}
 use Rattle.model.specs.Layout.{world, cleared}
 use Rattle.model.specs.Answers.{yesNoReply, yesNoState}
-use Rattle.model.specs.Calls.{Reply, refused, answered, exit, Query, All, Leaves, References, GridReport, Insert, Remove, Cleanup}
-use Rattle.model.specs.Calls.{queryRule, leavesRule, referencesRule, gridRule, insertRule, removeRule, cleanupRule}
+use Rattle.model.specs.Calls.{Reply, refused, answered, exit, Query, CollectIds, All, Leaves, References, GridReport, Insert, Remove, Cleanup}
+use Rattle.model.specs.Calls.{queryRule, allRule, leavesRule, referencesRule, gridRule, insertRule, removeRule, cleanupRule}
 use Rattle.model.specs.Tickets.{Ask, Place, askRule, placeRule}
-use Rattle.model.specs.Laws.Listing.{all-query}
+use Rattle.model.specs.Laws.Listing.{collect-query}
 use Rattle.model.specs.Laws.Memory.{holds-represented}
 use Rattle.tree_check.specs.Checks.{Checked}
 use Rattle.tree.specs.Operations.{CarriedOut}
 use Rattle.tree_query.specs.Answers.{Queried, LeavesListed}
+use Rattle.tree_all.specs.Walks.{AllListed}
 use Rattle.tree_grid.specs.Answers.{Reported}
 use Rattle.tree_cleanup.specs.Answers.{CleanedUp}
 use Rattle.calls.specs.Laws.Pattern.{call-refused, call-carried}
@@ -102,16 +103,25 @@ module _ {s : State} {nodes dots : List ℕ} {rects : List ℤ} {marks marks′ 
     query-answered z row′ reply done = call-carried c (queryRule q (length row)) row z done
 
   module _ (row : List ℕ) where
-    pub all-refused : (refusal ≡ 0 → ⊥) → All (world s nodes dots rects marks) row (world s nodes dots rects marks′) row (refused refusal)
-    all-refused ne = all-query _ _ _ _ _ .1 (query-refused (ofAllInks (rootRect (s .settings))) row ne)
+    pub collect-refused : (refusal ≡ 0 → ⊥) → CollectIds (world s nodes dots rects marks) row (world s nodes dots rects marks′) row (refused refusal)
+    collect-refused ne = collect-query _ _ _ _ _ .1 (query-refused (ofAllInks (rootRect (s .settings))) row ne)
 
-    pub all-answered : refusal ≡ 0 → {r : AABB} {q : Window} → r ≡ rootRect (s .settings) → q ≡ ofAllInks r → (row′ : List ℕ) (reply : Reply Found)
+    pub collect-answered : refusal ≡ 0 → {r : AABB} {q : Window} → r ≡ rootRect (s .settings) → q ≡ ofAllInks r → (row′ : List ℕ) (reply : Reply Found)
         → Queried s q nodes dots rects row row′ reply
-        → All (world s nodes dots rects marks) row (world s nodes dots rects marks′) row′ reply
-    all-answered z e f row′ reply done =
-        all-query _ _ _ _ _ .1
+        → CollectIds (world s nodes dots rects marks) row (world s nodes dots rects marks′) row′ reply
+    collect-answered z e f row′ reply done =
+        collect-query _ _ _ _ _ .1
         (query-answered (ofAllInks (rootRect (s .settings))) row z row′ reply
         (subst (λ (q : Window). Queried s q nodes dots rects row row′ reply) (f ∙ ap ofAllInks e) done))
+
+    pub all-refused : (refusal ≡ 0 → ⊥) → All (world s nodes dots rects marks) row (world s nodes dots rects marks′) row (refused refusal)
+    unfolding All
+    all-refused ne = call-refused c (allRule (length row)) row ne
+
+    pub all-answered : refusal ≡ 0 → (row′ : List ℕ) (reply : Reply ℕ) → AllListed s nodes dots row row′ reply
+        → All (world s nodes dots rects marks) row (world s nodes dots rects marks′) row′ reply
+    unfolding All AllListed
+    all-answered z row′ reply done = call-carried c (allRule (length row)) row z (done rects)
 
   module _ (row : List ℤ) where
     pub leaves-refused : (refusal ≡ 0 → ⊥) → Leaves (world s nodes dots rects marks) row (world s nodes dots rects marks′) row (refused refusal)

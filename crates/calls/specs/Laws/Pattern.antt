@@ -1,5 +1,5 @@
 -- What every call does once the check has answered.
---     checked-tree         a check that says 0 has found a tree; checked-nodes, checked-rects: its nodes, its rectangles
+--     checked-tree         a check that says 0 has found a tree; checked-nodes, checked-dots, checked-rects: its rows
 --     call-refused         a refusal is handed back, and nothing else is changed
 --     call-carried         else the operation without the check makes the exit
 use mathlib.Core.Path.{_≡_, refl, _∙_}
@@ -18,7 +18,7 @@ use Rattle.model.specs.Layout.{world, lengthsRight, Holds}
 use Rattle.model.specs.Calls.{Reply, refused, Verdict, exit, carriedOut, Obeys}
 use Rattle.tree_check.specs.Checks.{Checked}
 use Rattle.tree_check.specs.Laws.Calls.{checked-obeys}
-use Rattle.tree.specs.Operations.{IsTree, HasTree, HasRects}
+use Rattle.tree.specs.Operations.{IsTree, HasTree, HasDots, HasRects}
 
 module _ {s : State} {nodes dots : List ℕ} {rects : List ℤ} {marks marks′ : List ℕ} {refusal : ℕ} (c : Checked s nodes dots rects marks marks′ refusal) where
   pub checked-tree : refusal ≡ 0 → IsTree s nodes dots rects
@@ -34,6 +34,9 @@ module _ {s : State} {nodes dots : List ℕ} {rects : List ℤ} {marks marks′ 
 
   pub checked-nodes : refusal ≡ 0 → HasTree s nodes
   checked-nodes z = record { dots = dots; rects = rects; tree = checked-tree z }
+
+  pub checked-dots : refusal ≡ 0 → HasDots s nodes dots
+  checked-dots z = record { rects = rects; tree = checked-tree z }
 
   pub checked-rects : refusal ≡ 0 → HasRects s rects
   checked-rects z = record { nodes = nodes; dots = dots; tree = checked-tree z }

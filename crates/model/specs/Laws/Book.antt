@@ -1,6 +1,6 @@
 -- Laws of the book: how often a dot stands in it, as sums of weights.
 --     without-sum, but-tree        what a remove that says yes does to every weight
---     has-all, has-sum, count-live, live-count, dead-count, has-dot, has-hit, hit-has    from counts to `Live` and `Has`, and back
+--     has-all, has-sum, count-live, live-count, dead-count, has-dot, has-passing, passing-has    from counts to `Live` and `Has`, and back
 --     Told, book-told      the book is told arguments, accepted and yes alone (§12.4): nothing else of an event makes a difference
 use mathlib.Core.Path.{_≡_, refl, ap, sym, _∙_}
 use mathlib.Core.Logic.{inl, inr, ⊎-elim}
@@ -13,17 +13,15 @@ use lib.Dec.{eqb}
 use borrow.Author.Tests.{eqb-true}
 use Rattle.arithmetic.specs.Laws.Tests.{byBool}
 use Rattle.model.specs.declared.Dot.{Dot}
-use Rattle.model.specs.declared.Window.{Window}
 use Rattle.model.specs.declared.patch.Patch.{Patch}
 use Rattle.model.specs.Sums.{indicator, sumOver}
-use Rattle.model.specs.Lists.{All}
+use Rattle.model.specs.Lists.{All, filter}
 use Rattle.model.specs.Laws.Sums.{indicator-same, indicator-other, byDec}
-use Rattle.model.specs.Laws.Lists.{filter-le, sum-filter}
-use Rattle.model.specs.Dots.{isHit}
+use Rattle.model.specs.Laws.Lists.{sum-filter}
 use Rattle.model.specs.Trees.{Placed, Tree, sumDots, dots}
 use Rattle.model.specs.Laws.Trees.{sumDots-dots}
 use Rattle.model.specs.Patch.{patchDots}
-use Rattle.model.specs.Book.{Event, insert, remove, cleanup, query, patch, ask, place, accepted, saidYes, without, entered, bookAfter, Has, Live, meeting}
+use Rattle.model.specs.Book.{Event, insert, remove, cleanup, query, all, patch, ask, place, accepted, saidYes, without, entered, bookAfter, Has, Live}
 use Rattle.model.specs.Laws.Dots.{onDot, idIs, dotIs, sameRect-same}
 
 -- h, but 0 at the id k
@@ -66,9 +64,9 @@ has-all P (d ∷ ds) f = (f d (inl refl), has-all P ds (λ e has. f e (inr has))
 pub has-dot : (d : Dot) (b : List Dot) → Has d b → 1 ≤ sumOver (dotIs (d .id) (d .rect)) b
 has-dot d b = has-sum (dotIs (d .id) (d .rect)) d b (rw (sameRect-same (d .rect)) (indicator-same (d .id)))
 
-pub has-hit : (q : Window) (d : Dot) (b : List Dot) → Has d b → isHit q d ≡ true → 1 ≤ sumOver (idIs (d .id)) (meeting q b)
-has-hit q d b has hit =
-    omega (arith, sum-filter (idIs (d .id)) (isHit q) b, has-sum (λ e. cond (isHit q e) (idIs (d .id) e) 0) d b (rw hit (indicator-same (d .id))) has)
+pub has-passing : (test : Dot → Bool) (d : Dot) (b : List Dot) → Has d b → test d ≡ true → 1 ≤ sumOver (idIs (d .id)) (filter test b)
+has-passing test d b has pass =
+    omega (arith, sum-filter (idIs (d .id)) test b, has-sum (λ e. cond (test e) (idIs (d .id) e) 0) d b (rw pass (indicator-same (d .id))) has)
 
 pub count-live : (k : ℕ) (b : List Dot) → 1 ≤ sumOver (idIs k) b → Live k b
 count-live k [] c = absurd (omega arith)
@@ -83,18 +81,16 @@ live-count k b live = has-sum (idIs k) (live .0) b (ap (indicator k) (live .2) �
 pub dead-count : (k : ℕ) (b : List Dot) → ¬ Live k b → sumOver (idIs k) b ≡ 0
 dead-count k b n = byDec (decLe 1 (sumOver (idIs k) b)) (λ h. absurd (n (count-live k b h))) (λ h. omega arith)
 
-pub hit-has : (q : Window) (k : ℕ) (b : List Dot) → 1 ≤ sumOver (idIs k) (meeting q b) → (d : Dot) × Has d b × (d .id ≡ k) × (isHit q d ≡ true)
-hit-has q k [] c = absurd (omega arith)
-hit-has q k (d ∷ ds) c =
-    byBool (isHit q d)
+pub passing-has : (test : Dot → Bool) (k : ℕ) (b : List Dot) → 1 ≤ sumOver (idIs k) (filter test b)
+    → (d : Dot) × Has d b × (d .id ≡ k) × (test d ≡ true)
+passing-has test k [] c = absurd (omega arith)
+passing-has test k (d ∷ ds) c =
+    byBool (test d)
     (λ t.
     byDec (ℕ-discrete k (d .id))
     (λ e. (d, inl refl, sym e, t))
-    (λ ne. let l = hit-has q k ds (omega (arith, rw t at c, indicator-other k (d .id) ne)) in (l .0, inr (l .1), l .2, l .3)))
-    (λ t. let l = hit-has q k ds (rw t at c) in (l .0, inr (l .1), l .2, l .3))
-
-pub meeting-le : (q : Window) (k : ℕ) (b : List Dot) → sumOver (idIs k) (meeting q b) ≤ sumOver (idIs k) b
-meeting-le q k b = filter-le (idIs k) (isHit q) b
+    (λ ne. let l = passing-has test k ds (omega (arith, rw t at c, indicator-other k (d .id) ne)) in (l .0, inr (l .1), l .2, l .3)))
+    (λ t. let l = passing-has test k ds (rw t at c) in (l .0, inr (l .1), l .2, l .3))
 
 -- ---- what the book is told
 
@@ -109,6 +105,7 @@ toldOf (insert dot reply) = put dot (accepted reply)
 toldOf (remove id r reply) = taken id (saidYes reply)
 toldOf (cleanup reply) = nothing
 toldOf (query q row row′ reply) = nothing
+toldOf (all row row′ reply) = nothing
 toldOf (patch p reply) = tinted p (accepted reply)
 toldOf (ask dot reply) = nothing
 toldOf (place t reply) = put (t .dot) (accepted reply)
@@ -124,6 +121,7 @@ entered-told b (insert dot reply) = refl
 entered-told b (remove id r reply) = refl
 entered-told b (cleanup reply) = refl
 entered-told b (query q row row′ reply) = refl
+entered-told b (all row row′ reply) = refl
 entered-told b (patch p reply) = refl
 entered-told b (ask dot reply) = refl
 entered-told b (place t reply) = refl

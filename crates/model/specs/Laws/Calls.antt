@@ -1,10 +1,12 @@
 -- Laws of the calls on a world that is a tree: what each leaves, by the cases of its rule.
+--     answered-same        equal answers say the same
 --     left-refused, left-overflow, left-accepted   what a verdict leaves
 --     count-left, count-fits       the test of the count, and what it says
 --     counted-cases, counted-low, counted-fits, counted-past       refusal 16: where a change can be counted, and where not
 --     verdict-cases, insert-cases  what an insert needs is there, or it is refused
 --     Says, says-just, says-no, says-no-only       a call that says yes or no, and which it says
---     remove-says, cleanup-says, query-short, query-done
+--     remove-says, cleanup-says
+--     listing-short, listing-done, listing-front   a call that lists ids; query-left, all-left: which they are
 use mathlib.Core.Path.{_≡_, refl, ap, sym, _∙_, subst}
 use mathlib.Core.Logic.{_⊎_, inl, inr, ⊎-elim}
 use mathlib.Core.List.{List, [], _++_}
@@ -12,7 +14,8 @@ use mathlib.Core.Bool.{Bool, true, false, _||_}
 use Prim.Native.Nat.{ℕ, _+_, _-_, _≤_, _<_}
 use native.Mathlib.Decide.{decLe}
 use native.Mathlib.Omega.{arith}
-use lib.ListN.{length, drop}
+use lib.ListN.{length, take, drop}
+use lib.Seq.{take-append-seam}
 use lib.Dec.{eqb, ltb, leb}
 use Rattle.geometry.specs.declared.aabb.AABB.{AABB}
 use Rattle.model.specs.Laws.Sums.{byDec}
@@ -24,12 +27,12 @@ use Rattle.model.specs.declared.State.{State}
 use Rattle.model.specs.declared.Window.{Window}
 use Rattle.model.specs.Dots.{goodInk, acceptableDot}
 use Rattle.model.specs.Trees.{size}
-use Rattle.model.specs.Shapes.{Shape, Valid, inserted, splitsMade, splitsNeeded, removed, foundBy, cleaned, cleans, listed, opensFor}
+use Rattle.model.specs.Shapes.{Shape, Valid, inserted, splitsMade, splitsNeeded, removed, foundBy, cleaned, cleans, listed, allIds}
 use Rattle.model.specs.Layout.{World, Holds}
 use Rattle.model.specs.declared.answers.Found.{Found}
 use Rattle.model.specs.Calls.{Reply, refused, tooMany, answered, Verdict, refuse, overflow, accept, Exit, exit, carriedOut}
 use Rattle.model.specs.Calls.{largestCount, counted, canCount, insertVerdict, insertRule, yesOrNo}
-use Rattle.model.specs.Calls.{removeRule, cleanupRule, queryRule, Remove, Cleanup, Query}
+use Rattle.model.specs.Calls.{removeRule, cleanupRule, listing, foundIn, queryRule, allRule, Remove, Cleanup, Query, All}
 use borrow.Author.Tests.{eq-eqb, ltb-true, ltb-false, lt-ltb, le-ltb, leb-true, leb-false, le-leb, lt-leb}
 use Rattle.model.specs.Laws.Shapes.{live-and-free, removed-valid, cleaned-valid}
 use Rattle.model.specs.Laws.Layout.{layout-holds, cleared-holds, obeys-tree}
@@ -43,6 +46,15 @@ module _ {B A : Type 0} where
 
   pub reply-of : {e f : Exit B A} → e ≡ f → e .reply ≡ f .reply
   reply-of p = ap (λ e. e .reply) p
+
+-- equal answers say the same
+abbrev valueOr : {A : Type 0} → A → Reply A → A
+valueOr a (refused k) = a
+valueOr a (tooMany n) = a
+valueOr a (answered b) = b
+
+pub answered-same : {A : Type 0} {a b : A} → answered a ≡ answered b → a ≡ b
+answered-same {a = a} e = ap (valueOr a) e
 
 -- ---- what a verdict leaves
 
@@ -214,23 +226,27 @@ unfolding Cleanup cleanupRule
 cleanup-says w v reply call x h =
     says-cases w v reply x h (cleans x) (cleaned x) (λ e. cleaned-valid x (h .valid)) (obeys-tree cleanupRule w [] (exit v [] reply) call x h)
 
--- ---- query
+-- ---- calls that list ids
 
-module _ (w : World) (q : Window) (row : List ℕ) (v : World) (row′ : List ℕ) (reply : Reply Found) (call : Query w q row v row′ reply)
-    (x : Shape) (h : Holds w x) where
-  query-exit : exit v row′ reply ≡ carriedOut w row (queryRule q (length row) x)
-  unfolding Query
-  query-exit = obeys-tree (queryRule q (length row)) w row (exit v row′ reply) call x h
-
+module _ {A : Type 0} (w : World) (row : List ℕ) (v : World) (row′ : List ℕ) (reply : Reply A) (x : Shape) (h : Holds w x) (ids : List ℕ) (a : A)
+    (left : exit v row′ reply ≡ carriedOut w row (listing (length row) x ids a)) where
   -- too short a row
-  pub query-short : ltb (length row) (length (listed q x)) ≡ true → Holds v x × (reply ≡ tooMany (length (listed q x)))
-  unfolding queryRule
-  query-short e = left-overflow w row v row′ reply x h (queryRule q (length row) x) query-exit (length (listed q x)) (rw e refl)
+  pub listing-short : ltb (length row) (length ids) ≡ true → Holds v x × (reply ≡ tooMany (length ids))
+  listing-short e = left-overflow w row v row′ reply x h (listing (length row) x ids a) left (length ids) (rw e refl)
 
-  pub query-done : ltb (length row) (length (listed q x)) ≡ false
-      → Holds v x × (reply ≡ answered (record { hits = length (listed q x); opened = opensFor (q .rect) x }))
-      × (row′ ≡ listed q x ++ drop (length (listed q x)) row)
-  unfolding queryRule
-  query-done e =
-      left-accepted w row v row′ reply x h (queryRule q (length row) x) query-exit
-      x (listed q x) (record { hits = length (listed q x); opened = opensFor (q .rect) x }) (rw e refl) (h .valid)
+  pub listing-done : ltb (length row) (length ids) ≡ false → Holds v x × (reply ≡ answered a) × (row′ ≡ ids ++ drop (length ids) row)
+  listing-done e = left-accepted w row v row′ reply x h (listing (length row) x ids a) left x ids a (rw e refl) (h .valid)
+
+  -- the row begins with the ids
+  pub listing-front : ltb (length row) (length ids) ≡ false → take (length ids) row′ ≡ ids
+  listing-front e = ap (take (length ids)) (listing-done e .2) ∙ take-append-seam ids (drop (length ids) row)
+
+pub query-left : (w : World) (q : Window) (row : List ℕ) (v : World) (row′ : List ℕ) (reply : Reply Found) → Query w q row v row′ reply
+    → (x : Shape) → Holds w x → exit v row′ reply ≡ carriedOut w row (listing (length row) x (listed q x) (foundIn q x))
+unfolding Query queryRule
+query-left w q row v row′ reply call x h = obeys-tree (queryRule q (length row)) w row (exit v row′ reply) call x h
+
+pub all-left : (w : World) (row : List ℕ) (v : World) (row′ : List ℕ) (reply : Reply ℕ) → All w row v row′ reply
+    → (x : Shape) → Holds w x → exit v row′ reply ≡ carriedOut w row (listing (length row) x (allIds x) (length (allIds x)))
+unfolding All allRule
+all-left w row v row′ reply call x h = obeys-tree (allRule (length row)) w row (exit v row′ reply) call x h

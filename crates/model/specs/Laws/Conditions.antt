@@ -15,7 +15,7 @@ use Rattle.model.specs.declared.Ticket.{Ticket}
 use Rattle.model.specs.declared.patch.Patch.{Patch}
 use Rattle.model.specs.Patch.{patchDots}
 use Rattle.model.specs.Calls.{refused, tooMany, answered}
-use Rattle.model.specs.Book.{Event, insert, remove, cleanup, query, patch, ask, place, entered, bookAfter, book}
+use Rattle.model.specs.Book.{Event, insert, remove, cleanup, query, all, patch, ask, place, entered, bookAfter, book}
 use Rattle.model.specs.Book.{Has, Live, Fine, DistinctFrom, Distinct, Still, Quiet}
 
 -- two constructors are never equal
@@ -38,6 +38,7 @@ fine-if b (insert dot (tooMany k)) f = λ a. true-false (sym a)
 fine-if b (remove id r reply) f = tt
 fine-if b (cleanup reply) f = tt
 fine-if b (query q row row′ reply) f = tt
+fine-if b (all row row′ reply) f = tt
 fine-if b (ask dot reply) f = tt
 fine-if b (place t (answered n)) f = λ a. f .1 t n refl
 fine-if b (place t (refused k)) f = λ a. true-false (sym a)
@@ -68,6 +69,7 @@ still-if (remove id r (refused k)) f = refl
 still-if (remove id r (tooMany k)) f = refl
 still-if (cleanup reply) f = tt
 still-if (query q row row′ reply) f = tt
+still-if (all row row′ reply) f = tt
 still-if (ask dot reply) f = tt
 still-if (place t (answered n)) f = absurd (f .1 t n refl)
 still-if (place t (refused k)) f = refl

@@ -18,7 +18,7 @@ use Rattle.model.specs.Layout.{World, groupsOf, placesOf, Holds}
 use Rattle.model.specs.Calls.{Reply, answered, largestCount, Make}
 use Rattle.model.specs.Laying.{laid}
 use Rattle.model.specs.Patch.{patchDots}
-use Rattle.model.specs.Book.{Event, insert, remove, cleanup, query, patch, ask, place, Run, callsIn, calls, Few}
+use Rattle.model.specs.Book.{Event, insert, remove, cleanup, query, all, patch, ask, place, Run, callsIn, calls, Few}
 use Rattle.model.specs.Laws.Calls.{Says}
 use Rattle.model.specs.Laws.Laying.{laid-changes}
 use Rattle.model.specs.Laws.Effects.{Lays, Change, refusalOf, Trace, run-trace}
@@ -73,6 +73,7 @@ change-counts x (insert dot reply) y c = lays-counts (dot ∷ []) c
 change-counts x (remove id r reply) y c = says-counts refl c
 change-counts x (cleanup reply) y c = says-counts refl c
 change-counts x (query q row row′ reply) y c = counts-kept x 1 y c
+change-counts x (all row row′ reply) y c = counts-kept x 1 y c
 change-counts x (patch p reply) y c = lays-counts (patchDots p) c
 change-counts x (ask dot reply) y c = counts-kept x 1 y c
 change-counts x (place t reply) y c = lays-counts (t .dot ∷ []) c

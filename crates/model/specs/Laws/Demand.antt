@@ -13,40 +13,41 @@ use Prim.Native.Nat.{ℕ, suc, _*_, _+_, _≤_}
 use native.Mathlib.Nat.{mul-assoc}
 use native.Mathlib.Decide.{decLe}
 use native.Mathlib.Omega.{arith}
-use lib.ListN.{length, take, drop}
-use lib.Seq.{take-append-seam}
+use lib.ListN.{length, take}
 use lib.Dec.{ltb}
 use Rattle.geometry.specs.declared.aabb.AABB.{AABB}
 use Rattle.geometry.specs.declared.settings.Settings.{Settings}
 use Rattle.model.specs.Sums.{indicator, sumOver}
-use Rattle.model.specs.Laws.Sums.{indicator-same, indicator-le, sumOver-append, sumOver-one, byDec, sumOver-map}
-use Rattle.model.specs.Lists.{count}
+use Rattle.model.specs.Laws.Sums.{indicator-same, indicator-le, sumOver-append, sumOver-one, byDec}
+use Rattle.model.specs.Lists.{count, filter}
 use Rattle.arithmetic.specs.Laws.Tests.{byBool, true-false}
 use Rattle.model.specs.declared.Dot.{Dot}
 use Rattle.model.specs.declared.Window.{Window}
-use Rattle.model.specs.Dots.{goodInk, isHit}
+use Rattle.model.specs.Dots.{goodInk, isHit, anyDot}
 use Rattle.geometry.specs.Settings.{D}
-use Rattle.model.specs.Trees.{Placed, sumDots, dots, Shallow}
+use Rattle.model.specs.Trees.{sumDots, dots, Shallow}
 use Rattle.model.specs.Laws.Trees.{allDots-dots, sumDots-dots, shallow-le}
-use Rattle.model.specs.Query.{hits}
 use Rattle.model.specs.Remove.{removeSays, removeAt}
-use Rattle.model.specs.Shapes.{Shape, Valid, fresh, removed, foundBy, cleaned, listed, opensFor, root}
+use Rattle.model.specs.Shapes.{Shape, Valid, fresh, removed, foundBy, cleaned, listed, opensFor, allIds, root}
 use Rattle.model.specs.Layout.{World, groupsOf, placesOf, Holds}
 use Rattle.model.specs.declared.answers.Found.{Found}
-use Rattle.model.specs.Calls.{Reply, refused, tooMany, answered, largestCount, Make, Remove, Cleanup, Query}
+use Rattle.model.specs.Calls.{Reply, answered, exit, carriedOut, largestCount, listing, foundIn}
+use Rattle.model.specs.Calls.{Make, Remove, Cleanup, Query, All}
 use Rattle.model.specs.Laying.{laid, CanLay}
 use Rattle.model.specs.Patch.{patchDots}
-use Rattle.model.specs.Book.{Event, insert, remove, cleanup, query, patch, ask, place, Run, calls, Few, accepted, saidYes, without, entered, bookAfter}
+use Rattle.model.specs.Book.{Event, insert, remove, cleanup, query, all, patch, ask, place, Run, calls, Few, accepted, saidYes, without, entered, bookAfter}
 use Rattle.model.specs.Book.{book, Has, Live, Fine, DistinctFrom, Distinct, Quiet, cleanups, meeting, Exactly, Promise, Demand3}
 use borrow.Author.Tests.{leb-true, eq-eqb}
-use Rattle.model.specs.Laws.Query.{hits-filter, opened-le, branches-le}
+use Rattle.model.specs.Laws.Query.{opened-le, branches-le}
 use Rattle.model.specs.Laws.Cleanup.{clean-sum, Tidy, tidy-suc, shallow-tidy, tidy-clean, tidy-zero, clean-tidy}
 use Rattle.model.specs.Laws.Remove.{found-gone, found-live}
 use Rattle.model.specs.Laws.Shapes.{good-inks, valid-height, shape-routed}
-use Rattle.model.specs.Laws.Book.{but, without-sum, without-le, but-tree, count-live, dead-count, has-sum, has-dot, has-hit, hit-has, meeting-le}
+use Rattle.model.specs.Laws.Book.{but, without-sum, without-le, but-tree, count-live, dead-count, has-sum, has-dot, has-passing, passing-has}
 use Rattle.model.specs.Laws.Dots.{onDot, idIs, dotIs}
-use Rattle.model.specs.Laws.Lists.{all-map, sumOver-zero, sum-filter}
-use Rattle.model.specs.Laws.Calls.{says-just, says-no, says-no-only, remove-says, cleanup-says, query-short, query-done}
+use Rattle.model.specs.Laws.Lists.{all-map, sumOver-zero, filter-le, sum-filter, filter-any}
+use Rattle.model.specs.Laws.Calls.{says-just, says-no, says-no-only, remove-says, cleanup-says}
+use Rattle.model.specs.Laws.Calls.{answered-same, listing-short, listing-done, listing-front, query-left, all-left}
+use Rattle.model.specs.Laws.Listing.{shown, listed-shown, every-shown, shown-sum}
 use Rattle.model.specs.Laws.Laying.{laid-settings, laid-sum}
 use Rattle.model.specs.Laws.Patch.{patch-once}
 use Rattle.model.specs.Laws.Effects.{Lays, Change, Trace, run-trace}
@@ -127,6 +128,7 @@ step-stands s b x (remove id r reply) y v c fine I =
 step-stands s b x (cleanup reply) y v c fine I =
     ⊎-elim (λ no. rw (no .0) I) (⊎-elim (λ top. rw (top .0) I) (λ yes. rw (yes .0) (cleaned-stands s b x I))) c
 step-stands s b x (query q row row′ reply) y v c fine I = rw c I
+step-stands s b x (all row row′ reply) y v c fine I = rw c I
 step-stands s b x (patch p reply) y v c fine I = laying-stands s (patchDots p) b _ reply x y v c (patch-once p) fine I
 step-stands s b x (ask dot reply) y v c fine I = rw c I
 step-stands s b x (place t reply) y v c fine I = one-stands s b (t .dot) _ reply x y v c fine I
@@ -139,31 +141,18 @@ trace-stands s b x (e ∷ es) y v t d I =
 
 -- ---- what a shape says of its book
 
-opensOf : Reply Found → ℕ
-opensOf (refused k) = 0
-opensOf (tooMany n) = 0
-opensOf (answered a) = a .opened
-
 module _ (s : Settings) (b : List Dot) (x : Shape) (v : Valid x) (I : Stands s b x) where
-  -- every weight on ids sums to the same over the listed ids and over the live ones that the query asks for
-  listed-sum : (q : Window) (g : ℕ → ℕ) → sumOver g (listed q x) ≡ sumOver (λ d. g (d .id)) (meeting q b)
-  unfolding listed
-  listed-sum q g =
-      let hit : Placed → Bool = λ d. isHit q (d .dot) in
-      sumOver-map g (λ d. d .dot .id) (hits q (root x) (x .tree))
-      ∙ ap (sumOver (λ d. g (d .dot .id))) (hits-filter q (root x) (x .tree) (shape-routed x v))
-      ∙ sum-filter (λ d. g (d .dot .id)) hit (dots (x .tree))
-      ∙ sumDots-dots (λ d. cond (hit d) (g (d .dot .id)) 0) (x .tree)
-      ∙ I .same (λ d. cond (isHit q d) (g (d .id)) 0)
-      ∙ sym (sum-filter (λ d. g (d .id)) (isHit q) b)
+  -- every weight on ids sums to the same over the ids that a test shows and over the live dots that pass it
+  shown-book : (test : Dot → Bool) (g : ℕ → ℕ) → sumOver g (shown test x) ≡ sumOver (λ d. g (d .id)) (filter test b)
+  shown-book test g = shown-sum g test x ∙ I .same (λ d. cond (test d) (g (d .id)) 0) ∙ sym (sum-filter (λ d. g (d .id)) test b)
 
-  stands-exactly : (q : Window) → Exactly q b (listed q x)
-  stands-exactly q =
-      let sum : (id : ℕ) → count id (listed q x) ≡ sumOver (idIs id) (meeting q b) = λ id. listed-sum q (indicator id) in
+  stands-exactly : (test : Dot → Bool) → Exactly test b (shown test x)
+  stands-exactly test =
+      let sum : (id : ℕ) → count id (shown test x) ≡ sumOver (idIs id) (filter test b) = λ id. shown-book test (indicator id) in
       record {
-        once = λ id. omega (arith, sum id, meeting-le q id b, I .once id);
-        onlyThose = λ id c. hit-has q id b (omega (arith, sum id));
-        allThose = λ d h i. omega (arith, sum (d .id), has-hit q d b h i);
+        once = λ id. omega (arith, sum id, filter-le (idIs id) test b, I .once id);
+        onlyThose = λ id c. passing-has test id b (omega (arith, sum id));
+        allThose = λ d h i. omega (arith, sum (d .id), has-passing test d b h i);
       }
 
   has-found : (d : Dot) → Has d b → foundBy (d .id) (d .rect) x ≡ true
@@ -199,18 +188,35 @@ trace-append x [] fs y t = (x, refl, t)
 trace-append x (e ∷ es) fs y t = let r = trace-append (t .0) es fs y (t .2) in (r .0, (t .0, t .1, r .1), r .2)
 
 module _ (s : Settings) (w : World) (b : List Dot) (x : Shape) (h : Holds w x) (I : Stands s b x) where
-  stands-lists : (q : Window) (row row′ : List ℕ) (w′ : World) (reply : Reply Found) → Query w q row w′ row′ reply
-      → length (meeting q b) ≤ length row → (a : Found) × (reply ≡ answered a) × Exactly q b (take (a .hits) row′)
-  stands-lists q row row′ w′ reply call long =
-      let found = listed q x in
-      let sum = listed-sum s b x (h .valid) I q (λ k. 1) in
-      let many : length found ≡ length (meeting q b) = omega (arith, sum, sumOver-one found, sumOver-one (meeting q b)) in
-      byBool (ltb (length row) (length found))
-      (λ e. absurd (omega (arith, leb-true (suc (length row)) (length found) e)))
+  -- a call that lists the ids which a test shows, where its row has a word for each live dot that passes it
+  stands-shown : {A : Type 0} (test : Dot → Bool) (row row′ : List ℕ) (w′ : World) (reply : Reply A) (ids : List ℕ) (a : A) → ids ≡ shown test x
+      → exit w′ row′ reply ≡ carriedOut w row (listing (length row) x ids a) → length (filter test b) ≤ length row
+      → (reply ≡ answered a) × (length ids ≡ length (filter test b)) × Exactly test b (take (length ids) row′)
+  stands-shown test row row′ w′ reply ids a are given long =
+      let sum = shown-book s b x (h .valid) I test (λ k. 1) in
+      let many : length ids ≡ length (filter test b) = omega (arith, ap length are, sum, sumOver-one (shown test x), sumOver-one (filter test b)) in
+      byBool (ltb (length row) (length ids))
+      (λ e. absurd (omega (arith, leb-true (suc (length row)) (length ids) e)))
       (λ e.
-      let d = query-done w q row w′ row′ reply call x h e in
-      let front : take (length found) row′ ≡ found = ap (take (length found)) (d .2) ∙ take-append-seam found (drop (length found) row) in
-      (record { hits = length found; opened = opensFor (q .rect) x }, d .1, subst (Exactly q b) (sym front) (stands-exactly s b x (h .valid) I q)))
+      let d = listing-done w row w′ row′ reply x h ids a given e in
+      let front : take (length ids) row′ ≡ shown test x = listing-front w row w′ row′ reply x h ids a given e ∙ are in
+      (d .1, many, subst (Exactly test b) (sym front) (stands-exactly s b x (h .valid) I test)))
+
+  stands-lists : (q : Window) (row row′ : List ℕ) (w′ : World) (reply : Reply Found) → Query w q row w′ row′ reply
+      → length (meeting q b) ≤ length row → (a : Found) × (reply ≡ answered a) × Exactly (isHit q) b (take (a .hits) row′)
+  stands-lists q row row′ w′ reply call long =
+      let given = query-left w q row w′ row′ reply call x h in
+      let l = stands-shown (isHit q) row row′ w′ reply (listed q x) (foundIn q x) (listed-shown q x (h .valid)) given long in
+      (foundIn q x, l .0, l .2)
+
+  stands-all : (row row′ : List ℕ) (w′ : World) (reply : Reply ℕ) → All w row w′ row′ reply → length b ≤ length row
+      → (reply ≡ answered (length b)) × Exactly anyDot b (take (length b) row′)
+  stands-all row row′ w′ reply call long =
+      let every : length (filter anyDot b) ≡ length b = ap length (filter-any b) in
+      let l = stands-shown anyDot row row′ w′ reply (allIds x) (length (allIds x)) (every-shown x) (all-left w row w′ row′ reply call x h)
+      (omega (arith, every)) in
+      let many = l .1 ∙ every in
+      (l .0 ∙ ap answered many, subst (λ (n : ℕ). Exactly anyDot b (take n row′)) many (l .2))
 
   -- after D cleanups, of which none is refused, no branch is left that holds no dot
   stands-cleanups : (es : List Event) (v w′ : World) (reply : Reply Bool) → Run w es v → Quiet es → D s ≤ cleanups es → Cleanup v w′ reply
@@ -225,7 +231,7 @@ module _ (s : Settings) (w : World) (b : List Dot) (x : Shape) (h : Holds w x) (
 
   stands-opens : (es fs : List Event) (v w′ : World) → Run w (es ++ cleanup (answered false) ∷ fs) v → Quiet es → Quiet fs
       → (q : Window) (row row′ : List ℕ) (a : Found) → Query v q row w′ row′ (answered a) → a .opened ≤ 1 + 5 * D s * length b
-  unfolding opensOf cleaned
+  unfolding cleaned
   stands-opens es fs v w′ run qe qf q row row′ a call =
       let said = cleanup (answered false) ∷ fs in
       let r = run-trace w (es ++ said) v x h run in
@@ -238,9 +244,10 @@ module _ (s : Settings) (w : World) (b : List Dot) (x : Shape) (h : Holds w x) (
       (λ u p. (cleaned-stands s b u (p .0), tidy-clean 0 (u .tree) (tidy-suc 0 (u .tree) (p .1))))
       y said z (parts .2) (tt, qf) (before, clean-tidy (y .tree) clean) in
       let small = few s b z (r .1 .valid) (after .0) (q .rect) (after .1) in
+      let given = query-left v q row w′ row′ (answered a) call z (r .1) in
       byBool (ltb (length row) (length (listed q z)))
-      (λ e. true-false (ap accepted (query-short v q row w′ row′ (answered a) call z (r .1) e .1)))
-      (λ e. let d = query-done v q row w′ row′ (answered a) call z (r .1) e in omega (arith, small, ap opensOf (d .1)))
+      (λ e. true-false (ap accepted (listing-short v row w′ row′ (answered a) z (r .1) (listed q z) (foundIn q z) given e .1)))
+      (λ e. let d = listing-done v row w′ row′ (answered a) z (r .1) (listed q z) (foundIn q z) given e in omega (arith, small, ap (λ (f : Found). f .opened) (answered-same (d .1))))
 
   stands-removes : (d : Dot) (w′ : World) (reply : Reply Bool) → Remove w (d .id) (d .rect) w′ reply → Has d b → x .changes + 1 ≤ largestCount
       → reply ≡ answered true
@@ -253,6 +260,7 @@ module _ (s : Settings) (w : World) (b : List Dot) (x : Shape) (h : Holds w x) (
   stands-promise made slowly =
       record {
         lists = stands-lists;
+        listsAll = λ row row′ w′ reply call long. stands-all row row′ w′ reply call (omega (arith, long));
         removesLive = λ d w′ reply call has few. stands-removes d w′ reply call has (few-exactly (x .changes + 1) .0 (omega (arith, slowly)));
         keepsOthers = λ id r w′ reply call dead.
             says-no-only (dead-not-found s b x (h .valid) I id r dead) (remove-says w id r w′ reply call x h .2);

@@ -19,16 +19,17 @@ use Rattle.arithmetic.specs.Laws.Tests.{byBool}
 use Rattle.model.specs.declared.Dot.{Dot}
 use Rattle.model.specs.declared.Ticket.{Ticket}
 use Rattle.model.specs.declared.patch.Patch.{Patch}
-use Rattle.model.specs.Shapes.{Shape, Valid, inserted, splitsMade, removed, foundBy, cleaned, cleans, listed}
+use Rattle.model.specs.Shapes.{Shape, Valid, inserted, splitsMade, removed, foundBy, cleaned, cleans, listed, allIds}
 use Rattle.model.specs.Layout.{World, Holds}
-use Rattle.model.specs.Calls.{Reply, answered, refusal, Verdict, refuse, accept, exit, carriedOut, largestCount, counted, insertRule, Insert}
+use Rattle.model.specs.Calls.{Reply, answered, refusal, Verdict, refuse, accept, exit, carriedOut}
+use Rattle.model.specs.Calls.{largestCount, counted, listing, foundIn, insertRule, Insert}
 use Rattle.model.specs.Laying.{laid, CanLay}
 use Rattle.model.specs.Patch.{patchFits, patchDots, patchRule}
 use Rattle.model.specs.Tickets.{askedOf, told, askRule, placeRule, Ask, Place}
-use Rattle.model.specs.Book.{Event, insert, remove, cleanup, query, patch, ask, place, Happens, Run, callsIn, accepted}
+use Rattle.model.specs.Book.{Event, insert, remove, cleanup, query, all, patch, ask, place, Happens, Run, callsIn, accepted}
 use Rattle.model.specs.Laws.Layout.{obeys-tree}
 use Rattle.model.specs.Laws.Calls.{counted-cases, Refusing, other-refusal, sixteen-refusal, Goes, insert-cases, left-refused, left-accepted}
-use Rattle.model.specs.Laws.Calls.{Says, remove-says, cleanup-says, query-short, query-done}
+use Rattle.model.specs.Laws.Calls.{Says, remove-says, cleanup-says, listing-short, listing-done, query-left, all-left}
 use Rattle.model.specs.Laws.Laying.{can-lay-one, lay-can, laid-changes}
 use Rattle.model.specs.Laws.Patch.{patch-goes, patch-cases}
 
@@ -78,6 +79,7 @@ refusalOf (insert dot reply) = refusal reply
 refusalOf (remove id r reply) = refusal reply
 refusalOf (cleanup reply) = refusal reply
 refusalOf (query q row row′ reply) = refusal reply
+refusalOf (all row row′ reply) = refusal reply
 refusalOf (patch p reply) = refusal reply
 refusalOf (ask dot reply) = refusal reply
 refusalOf (place t reply) = refusal reply
@@ -95,6 +97,7 @@ Change x (insert dot reply) y = Lays x (dot ∷ []) (splitsMade dot x) reply y
 Change x (remove id r reply) y = Says x (foundBy id r x) (removed id r x) reply y
 Change x (cleanup reply) y = Says x (cleans x) (cleaned x) reply y
 Change x (query q row row′ reply) y = y ≡ x
+Change x (all row row′ reply) y = y ≡ x
 Change x (patch p reply) y = Lays x (patchDots p) (length (patchDots p)) reply y
 Change x (ask dot reply) y = y ≡ x
 Change x (place t reply) y = Lays x (t .dot ∷ []) (splitsMade (t .dot) x) reply y
@@ -148,6 +151,16 @@ module _ (w v : World) (x : Shape) (h : Holds w x) where
       (λ yes. accepts (ap refusal (yes .1))))
       s
 
+  -- a call that lists ids leaves the shape
+  lists : {A : Type 0} (row row′ : List ℕ) (reply : Reply A) (ids : List ℕ) (a : A)
+      → exit v row′ reply ≡ carriedOut w row (listing (length row) x ids a) → Holds v x × Reason (refusal reply) (x .changes + 1)
+  lists row row′ reply ids a given =
+      byBool (ltb (length row) (length ids))
+      (λ e.
+      let s = listing-short w row v row′ reply x h ids a given e in
+      (s .0, refuses (ap refusal (s .1)) (other-refusal 8 (x .changes + 1) (omega arith) (omega arith))))
+      (λ e. let d = listing-done w row v row′ reply x h ids a given e in (d .0, accepts (ap refusal (d .1))))
+
   pub step : (e : Event) → Happens w e v → Left e
   unfolding Insert Ask Place removed cleaned
   step (insert dot reply) call =
@@ -158,11 +171,11 @@ module _ (w v : World) (x : Shape) (h : Holds w x) where
       let s = remove-says w id r v reply call x h in left (remove id r reply) (s .0) (s .1) (s .2) (says reply refl (s .2))
   step (cleanup reply) call = let s = cleanup-says w v reply call x h in left (cleanup reply) (s .0) (s .1) (s .2) (says reply refl (s .2))
   step (query q row row′ reply) call =
-      byBool (ltb (length row) (length (listed q x)))
-      (λ e.
-      let a = query-short w q row v row′ reply call x h e in
-      left (query q row row′ reply) x (a .0) refl (refuses (ap refusal (a .1)) (other-refusal 8 (x .changes + 1) (omega arith) (omega arith))))
-      (λ e. let a = query-done w q row v row′ reply call x h e in left (query q row row′ reply) x (a .0) refl (accepts (ap refusal (a .1))))
+      let l = lists row row′ reply (listed q x) (foundIn q x) (query-left w q row v row′ reply call x h) in
+      left (query q row row′ reply) x (l .0) refl (l .1)
+  step (all row row′ reply) call =
+      let l = lists row row′ reply (allIds x) (length (allIds x)) (all-left w row v row′ reply call x h) in
+      left (all row row′ reply) x (l .0) refl (l .1)
   step (patch p reply) call =
       byBool (patchFits p)
       (λ e.

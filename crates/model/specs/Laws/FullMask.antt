@@ -21,14 +21,14 @@ use Rattle.geometry.specs.Cells.{childData, opens}
 use Rattle.model.specs.declared.Dot.{Dot}
 use Rattle.model.specs.declared.Window.{Window}
 use Rattle.model.specs.declared.answers.Found.{Found}
-use Rattle.model.specs.Lists.{count, filter}
+use Rattle.model.specs.Lists.{filter}
 use Rattle.model.specs.Dots.{goodInk, shows, allInks, ofAllInks, isHit}
 use Rattle.model.specs.Trees.{Placed, Tree, leaf, branch, AllDots}
 use Rattle.model.specs.Query.{hits}
 use Rattle.model.specs.Shapes.{Shape, Valid, root}
 use Rattle.model.specs.Layout.{World}
 use Rattle.model.specs.Calls.{Reply, answered, Make, Query}
-use Rattle.model.specs.Book.{Event, Run, book, Has, Distinct, Demand3}
+use Rattle.model.specs.Book.{Event, Run, book, Has, Distinct, Exactly, Demand3}
 use Rattle.model.specs.Laws.Lists.{all-map, filter-ext, filter-twice, filter-joinBelow, joinBelow-ext}
 use Rattle.model.specs.Laws.Shapes.{good-inks}
 use Rattle.model.specs.Laws.Book.{has-all}
@@ -67,17 +67,11 @@ masked-hits q x v = masked q (root x) (x .tree) (good-inks x v)
 
 -- ---- the promise
 
--- all live ids that intersect, no others, none twice
-pub record Meets (q : AABB) (b : List Dot) (listed : List ℕ) : Type 0 where
-  pub once : (id : ℕ) → count id listed ≤ 1
-  pub onlyThose : (id : ℕ) → 1 ≤ count id listed → (d : Dot) × Has d b × (d .id ≡ id) × (intersects q (d .rect) ≡ true)
-  pub allThose : (d : Dot) → Has d b → intersects q (d .rect) ≡ true → 1 ≤ count (d .id) listed
-
 pub full-mask : (lent : World) (s : Settings) (start : World) → Make lent s start (answered tt)
     → (es : List Event) (w : World) → Run start es w → Distinct es
     → (q : AABB) (row row′ : List ℕ) (w′ : World) (reply : Reply Found) → Query w (ofAllInks q) row w′ row′ reply
     → length (filter (λ d. intersects q (d .rect)) (book es)) ≤ length row
-    → (a : Found) × (reply ≡ answered a) × Meets q (book es) (take (a .hits) row′)
+    → (a : Found) × (reply ≡ answered a) × Exactly (λ d. intersects q (d .rect)) (book es) (take (a .hits) row′)
 unfolding Demand3
 full-mask lent s start m es w run distinct q row row′ w′ reply call long =
     let b = book es in

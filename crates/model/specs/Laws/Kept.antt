@@ -12,10 +12,10 @@ use lib.ListN.{length, replicate}
 use Rattle.model.specs.Shapes.{Shape}
 use Rattle.model.specs.Layout.{World, Holds}
 use Rattle.model.specs.Calls.{refused, refusal, Verdict, Exit, exit, Obeys}
-use Rattle.model.specs.Calls.{insertRule, removeRule, cleanupRule, queryRule, Insert, Remove, Cleanup, Query}
+use Rattle.model.specs.Calls.{insertRule, removeRule, cleanupRule, queryRule, allRule, Insert, Remove, Cleanup, Query, All}
 use Rattle.model.specs.Patch.{patchFits, patchRule}
 use Rattle.model.specs.Tickets.{askRule, placeRule, Ask, Place}
-use Rattle.model.specs.Book.{Event, insert, remove, cleanup, query, patch, ask, place, Happens, Run}
+use Rattle.model.specs.Book.{Event, insert, remove, cleanup, query, all, patch, ask, place, Happens, Run}
 use Rattle.model.specs.Laws.Pattern.{Untouched, refused-untouched, marks-cleared}
 use Rattle.model.specs.Laws.Effects.{refusalOf, Late, step}
 
@@ -29,6 +29,7 @@ Kept w (insert dot reply) v = KeptBy {B = ℕ} w [] (exit v [] reply)
 Kept w (remove id r reply) v = KeptBy {B = ℕ} w [] (exit v [] reply)
 Kept w (cleanup reply) v = KeptBy {B = ℕ} w [] (exit v [] reply)
 Kept w (query q row row′ reply) v = KeptBy w row (exit v row′ reply)
+Kept w (all row row′ reply) v = KeptBy w row (exit v row′ reply)
 Kept w (ask dot reply) v = KeptBy {B = ℕ} w [] (exit v [] reply)
 Kept w (place t reply) v = KeptBy {B = ℕ} w [] (exit v [] reply)
 Kept w (patch p reply) v = (patchFits p ≡ false → (v ≡ w) × (reply ≡ refused 13)) × (patchFits p ≡ true → KeptBy {B = ℕ} w [] (exit v [] reply))
@@ -47,11 +48,12 @@ kept-by rule w row e x h late o =
     }
 
 step-kept : (w : World) (e : Event) (v : World) (x : Shape) → Holds w x → Happens w e v → Late (refusalOf e) → Kept w e v
-unfolding Insert Remove Cleanup Query Ask Place
+unfolding Insert Remove Cleanup Query All Ask Place
 step-kept w (insert dot reply) v x h call late = kept-by (insertRule dot) w [] (exit v [] reply) x h late call
 step-kept w (remove id r reply) v x h call late = kept-by (removeRule id r) w [] (exit v [] reply) x h late call
 step-kept w (cleanup reply) v x h call late = kept-by cleanupRule w [] (exit v [] reply) x h late call
 step-kept w (query q row row′ reply) v x h call late = kept-by (queryRule q (length row)) w row (exit v row′ reply) x h late call
+step-kept w (all row row′ reply) v x h call late = kept-by (allRule (length row)) w row (exit v row′ reply) x h late call
 step-kept w (ask dot reply) v x h call late = kept-by (askRule dot) w [] (exit v [] reply) x h late call
 step-kept w (place t reply) v x h call late = kept-by (placeRule t) w [] (exit v [] reply) x h late call
 step-kept w (patch p reply) v x h call late = (call .badPatch, λ e. kept-by (patchRule p) w [] (exit v [] reply) x h late (call .goodPatch e))

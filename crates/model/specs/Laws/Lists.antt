@@ -4,6 +4,7 @@
 --     all-map, all-append, all-joinBelow       what holds of every element
 --     sumOver-joinBelow, sumOver-joinOver, sumOver-zero, sumOver-all       a sum over a joined list; weights that are 0, or agree, throughout
 --     joinOver-append, joinOver-joinBelow      lists joined over a joined list
+--     filter-any, filter-sublist, sublist-map  what every element passes; a filtered list is a sublist
 --     map-append, length-map
 use mathlib.Core.Path.{_≡_, refl, ap, ap₂, sym, _∙_}
 use mathlib.Core.List.{List, [], _∷_, _++_, map, append-assoc}
@@ -14,7 +15,7 @@ use native.Mathlib.Omega.{arith}
 use lib.ListN.{length, length-append}
 use Rattle.arithmetic.specs.Laws.Tests.{byBool}
 use Rattle.model.specs.Sums.{sumOver, sumBelow}
-use Rattle.model.specs.Lists.{joinBelow, joinOver, filter, All, upTo}
+use Rattle.model.specs.Lists.{joinBelow, joinOver, filter, All, upTo, Sublist, empty, taken, leftOut}
 use Rattle.model.specs.Laws.Sums.{sumOver-append}
 
 module _ {ℓ} {A : Type ℓ} where
@@ -79,6 +80,19 @@ module _ {ℓ} {A : Type ℓ} where
   pub sum-filter : (h : A → ℕ) (p : A → Bool) (xs : List A) → sumOver h (filter p xs) ≡ sumOver (λ x. cond (p x) (h x) 0) xs
   sum-filter h p [] = refl
   sum-filter h p (x ∷ xs) = byBool (p x) (λ e. rw e (omega (arith, sum-filter h p xs))) (λ e. rw e (omega (arith, sum-filter h p xs)))
+
+pub filter-any : {A : Type 0} (xs : List A) → filter (λ x. true) xs ≡ xs
+filter-any [] = refl
+filter-any (x ∷ xs) = ap (λ r. x ∷ r) (filter-any xs)
+
+pub filter-sublist : {A : Type 0} (p : A → Bool) (xs : List A) → Sublist (filter p xs) xs
+filter-sublist p [] = empty
+filter-sublist p (x ∷ xs) = byBool (p x) (λ e. rw e (taken (filter-sublist p xs))) (λ e. rw e (leftOut (filter-sublist p xs)))
+
+pub sublist-map : {A B : Type 0} (f : A → B) {xs ys : List A} → Sublist xs ys → Sublist (map f xs) (map f ys)
+sublist-map f empty = empty
+sublist-map f (taken s) = taken (sublist-map f s)
+sublist-map f (leftOut s) = leftOut (sublist-map f s)
 
 pub map-append : {A B : Type 0} (f : A → B) (xs ys : List A) → map f (xs ++ ys) ≡ map f xs ++ map f ys
 map-append f [] ys = refl

@@ -18,7 +18,7 @@ use Rattle.model.specs.Shapes.{Shape, cleaned, cleans}
 use Rattle.model.specs.Calls.{Reply, refusal, answered}
 use Rattle.model.specs.Laying.{laid}
 use Rattle.model.specs.Patch.{patchDots}
-use Rattle.model.specs.Book.{Event, insert, remove, cleanup, query, patch, ask, place, accepted, saidYes, laidBy, Still, Quiet, cleanups}
+use Rattle.model.specs.Book.{Event, insert, remove, cleanup, query, all, patch, ask, place, accepted, saidYes, laidBy, Still, Quiet, cleanups}
 use Rattle.model.specs.Laws.Query.{Clean}
 use Rattle.model.specs.Laws.Cleanup.{no-clean, clean-no, Tidy, tidy-any, tidy-clean, clean-tidy}
 use Rattle.model.specs.Laws.Calls.{Says}
@@ -52,6 +52,7 @@ still-change x (remove id r reply) es y c q =
     inl (⊎-elim (λ no. no .0) (⊎-elim (λ top. top .0) (λ yes. true-false (sym (ap saidYes (yes .1)) ∙ q))) c, refl)
 still-change x (cleanup reply) es y c q = inr (reply, refl, c)
 still-change x (query r row row′ reply) es y c q = inl (c, refl)
+still-change x (all row row′ reply) es y c q = inl (c, refl)
 still-change x (patch p reply) es y c q = inl (still-lays x (patchDots p) _ reply y c (λ a. none (patchDots p) (sym (ap laidBy a) ∙ q)), refl)
   where
     none : (ds : List Dot) → length ds ≡ 0 → ds ≡ []

@@ -18,10 +18,11 @@ use Rattle.grid.specs.Grids.{columnsOf, windows, sizesFit, cornerFits}
 use Rattle.model.specs.Shapes.{Shape}
 use Rattle.model.specs.Layout.{World, layout, Holds}
 use Rattle.model.specs.Grid.{gridCounts, gridTotal, GridOf}
-use Rattle.model.specs.Calls.{Reply, refused, tooMany, answered, Exit, exit, refuse, carriedOut, Make, gridRule, GridReport}
+use Rattle.model.specs.Calls.{refused, tooMany, answered, Exit, exit, refuse, carriedOut, Make, gridRule, GridReport}
 use Rattle.model.specs.Book.{accepted, Event, Run, Distinct, book}
 use Rattle.model.specs.Laws.Layout.{obeys-tree}
 use Rattle.model.specs.Laws.Pattern.{answered-tree}
+use Rattle.model.specs.Laws.Calls.{reply-of, answered-same}
 use Rattle.model.specs.Laws.Demand.{run-book}
 use Rattle.model.specs.Laws.Grid.{total-all, count-all, counts-length, counts-cell, total-le}
 
@@ -35,11 +36,6 @@ module _ (g : Grid) (room : ℕ) (x : Shape) where
   grid-twelve sized far = rw (sized, far) refl
 
 -- ---- an accepted one
-
-abbrev numberIn : Reply ℕ → ℕ
-numberIn (refused k) = 0
-numberIn (tooMany n) = 0
-numberIn (answered n) = n
 
 module _ (g : Grid) (w : World) (row : List ℕ) (w′ : World) (row′ : List ℕ) (total : ℕ) (said : GridReport w g row w′ row′ (answered total)) where
   abbrev Left : Shape → Type 0
@@ -83,7 +79,7 @@ module _ (g : Grid) (w : World) (row : List ℕ) (w′ : World) (row′ : List �
       ltb-true total 4294967296
       (answered-tree (gridRule g (length row)) w row w′ row′ total said (ltb total 4294967296)
       (λ x h e.
-      let is : total ≡ gridTotal g x = ap (λ (f : Exit ℕ ℕ). numberIn (f .reply)) (grid-left x e) in
+      let is : total ≡ gridTotal g x = answered-same (reply-of (grid-left x e)) in
       lt-ltb total 4294967296 (omega (arith, is, total-le g grid-sized x (h .valid)))))
 
   pub grid-exit : (x : Shape) → Holds w x → (row′ ≡ gridCounts g x ++ drop (windows g) row) × (total ≡ gridTotal g x)
@@ -91,7 +87,7 @@ module _ (g : Grid) (w : World) (row : List ℕ) (w′ : World) (row′ : List �
   grid-exit x h =
       let left = grid-left x (obeys-tree (gridRule g (length row)) w row _ said x h) in (
         ap (λ (f : Exit ℕ ℕ). f .row) left ∙ ap (λ (n : ℕ). gridCounts g x ++ drop n row) (counts-length g x),
-        ap (λ (f : Exit ℕ ℕ). numberIn (f .reply)) left,
+        answered-same (reply-of left),
       )
 
 -- ---- the book

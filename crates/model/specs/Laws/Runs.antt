@@ -18,13 +18,14 @@ use Rattle.model.specs.declared.Dot.{Dot}
 use Rattle.model.specs.declared.Window.{Window}
 use Rattle.model.specs.declared.Ticket.{Ticket}
 use Rattle.model.specs.declared.patch.Patch.{Patch}
-use Rattle.model.specs.Shapes.{Shape, Valid, fresh, removed, foundBy, cleaned, cleans, listed}
+use Rattle.model.specs.Shapes.{Shape, Valid, fresh, removed, foundBy, cleaned, cleans, listed, allIds}
 use Rattle.model.specs.Layout.{World, groupsOf, placesOf, lengthsRight, layout, cleared, Holds}
 use Rattle.model.specs.Calls.{refused, answered, Verdict, refuse, overflow, accept, exit, carriedOut, Obeys, yesOrNo}
-use Rattle.model.specs.Calls.{insertRule, removeRule, cleanupRule, queryRule, Make, Insert, Remove, Cleanup, Query}
+use Rattle.model.specs.Calls.{insertRule, removeRule, cleanupRule, listing, foundIn, queryRule, allRule}
+use Rattle.model.specs.Calls.{Make, Insert, Remove, Cleanup, Query, All}
 use Rattle.model.specs.Patch.{patchFits, patchDots, patchRule}
 use Rattle.model.specs.Tickets.{askRule, placeRule, Ask, Place}
-use Rattle.model.specs.Book.{Event, insert, remove, cleanup, query, patch, ask, place, Happens, Run, accepted}
+use Rattle.model.specs.Book.{Event, insert, remove, cleanup, query, all, patch, ask, place, Happens, Run, accepted}
 use Rattle.model.specs.Laws.Shapes.{fresh-valid, removed-valid, cleaned-valid}
 use Rattle.model.specs.Laws.Layout.{right-fits, layout-holds, cleared-holds, holds-lengths, holds-settings}
 use Rattle.model.specs.Laws.Pattern.{by-tree, by-good-patch, by-bad-patch}
@@ -49,6 +50,7 @@ pub data Call : Type 0 where
   toRemove : ℕ → AABB → Call
   toCleanUp : Call
   toQuery : Window → List ℕ → Call
+  toAll : List ℕ → Call
   toPatch : Patch → Call
   toAsk : Dot → Call
   toPlace : Ticket → Call
@@ -58,6 +60,7 @@ callOf (insert dot reply) = toInsert dot
 callOf (remove id r reply) = toRemove id r
 callOf (cleanup reply) = toCleanUp
 callOf (query q row row′ reply) = toQuery q row
+callOf (all row row′ reply) = toAll row
 callOf (patch p reply) = toPatch p
 callOf (ask dot reply) = toAsk dot
 callOf (place t reply) = toPlace t
@@ -74,6 +77,7 @@ eventOn x (toInsert dot) = insert dot (carriedOut (layout x) [] (insertRule dot 
 eventOn x (toRemove id r) = remove id r (carriedOut (layout x) [] (removeRule id r x) .reply)
 eventOn x toCleanUp = cleanup (carriedOut (layout x) [] (cleanupRule x) .reply)
 eventOn x (toQuery q row) = let e = carriedOut (layout x) row (queryRule q (length row) x) in query q row (e .row) (e .reply)
+eventOn x (toAll row) = let e = carriedOut (layout x) row (allRule (length row) x) in all row (e .row) (e .reply)
 eventOn x (toPatch p) = patch p (cond (patchFits p) (carriedOut (layout x) [] (patchRule p x) .reply) (refused 13))
 eventOn x (toAsk dot) = ask dot (carriedOut (layout x) [] (askRule dot x) .reply)
 eventOn x (toPlace t) = place t (carriedOut (layout x) [] (placeRule t x) .reply)
@@ -83,6 +87,7 @@ shapeOn x (toInsert dot) = after x (insertRule dot x)
 shapeOn x (toRemove id r) = after x (removeRule id r x)
 shapeOn x toCleanUp = after x (cleanupRule x)
 shapeOn x (toQuery q row) = after x (queryRule q (length row) x)
+shapeOn x (toAll row) = after x (allRule (length row) x)
 shapeOn x (toPatch p) = cond (patchFits p) (after x (patchRule p x)) x
 shapeOn x (toAsk dot) = after x (askRule dot x)
 shapeOn x (toPlace t) = after x (placeRule t x)
@@ -124,15 +129,17 @@ module _ (w : World) (x : Shape) (h : Holds w x) where
   says-tame true other valid = ⊎-elim (λ c. rw (c .0) (h .valid, refl)) (λ c. rw (c .0) (valid refl, refl)) (counted-cases {B = ℕ} other [] true)
   says-tame false other valid = (h .valid, refl)
 
+  lists-valid : {A : Type 0} (room : ℕ) (ids : List ℕ) (a : A) → Valid (after x (listing room x ids a))
+  lists-valid room ids a = byBool (ltb room (length ids)) (λ e. rw e (h .valid)) (λ e. rw e (h .valid))
+
   -- the event happens, and leaves the shape
   next : (c : Call) → (v : World) × Happens w (eventOn x c) v × Holds v (shapeOn x c)
-  unfolding Insert Remove removeRule Cleanup cleanupRule Query queryRule Ask Place
+  unfolding Insert Remove removeRule Cleanup cleanupRule Query queryRule All allRule Ask Place
   next (toInsert dot) = rowless (insertRule dot) (lays-tame (dot ∷ []) (insertRule dot x) (insert-outcome x (h .valid) dot))
   next (toRemove id r) = rowless (removeRule id r) (says-tame (foundBy id r x) (removed id r x) (removed-valid id r x (h .valid)))
   next toCleanUp = rowless cleanupRule (says-tame (cleans x) (cleaned x) (λ e. cleaned-valid x (h .valid)))
-  next (toQuery q row) =
-      on-tree (queryRule q (length row)) row (queryRule q (length row) x) refl
-      (byBool (ltb (length row) (length (listed q x))) (λ e. rw e (h .valid)) (λ e. rw e (h .valid)))
+  next (toQuery q row) = on-tree (queryRule q (length row)) row (queryRule q (length row) x) refl (lists-valid (length row) (listed q x) (foundIn q x))
+  next (toAll row) = on-tree (allRule (length row)) row (allRule (length row) x) refl (lists-valid (length row) (allIds x) (length (allIds x)))
   next (toPatch p) =
       byBool (patchFits p)
       (λ e.
@@ -149,6 +156,7 @@ event-call x (toInsert dot) = refl
 event-call x (toRemove id r) = refl
 event-call x toCleanUp = refl
 event-call x (toQuery q row) = refl
+event-call x (toAll row) = refl
 event-call x (toPatch p) = refl
 event-call x (toAsk dot) = refl
 event-call x (toPlace t) = refl

@@ -2,7 +2,7 @@
 --     place-inserts        a placing whose ticket has the state's count is the insert of its dot, on any lent words
 --     tickets-hold         THE THEOREM of §21.6
 use mathlib.Core.Path.{_≡_, refl, ap, sym, _∙_, subst}
-use mathlib.Core.Logic.{_⊎_, inl, inr, ⊎-elim}
+use mathlib.Core.Logic.{inl, inr, ⊎-elim}
 use mathlib.Core.List.{List, [], _∷_}
 use Prim.Native.Nat.{ℕ}
 use lib.Dec.{eqb}
@@ -15,7 +15,7 @@ use Rattle.model.specs.Shapes.{Shape, fresh, inserted, splitsMade}
 use Rattle.model.specs.Layout.{World, groupsOf, placesOf, Holds}
 use Rattle.model.specs.Calls.{Reply, accept, exit, carriedOut, insertRule, Insert}
 use Rattle.model.specs.Tickets.{askedOf, askRule, placeRule, Ask, Place}
-use Rattle.model.specs.Book.{Event, insert, remove, cleanup, query, patch, ask, place, Happens, Run, accepted, Tells, Gave, TicketsHold}
+use Rattle.model.specs.Book.{Event, insert, remove, cleanup, query, all, patch, ask, place, Happens, Run, accepted, Tells, Gave, TicketsHold}
 use Rattle.model.specs.Laws.Layout.{holds-changes, obeys-tree}
 use Rattle.model.specs.Laws.Splitting.{made-needed}
 use Rattle.model.specs.Laws.Shapes.{inserted-valid}
@@ -68,6 +68,7 @@ tells-stays w x h (insert dot reply) u call es v run t n tells = absurd tells
 tells-stays w x h (remove id r reply) u call es v run t n tells = absurd tells
 tells-stays w x h (cleanup reply) u call es v run t n tells = absurd tells
 tells-stays w x h (query q row row′ reply) u call es v run t n tells = absurd tells
+tells-stays w x h (all row row′ reply) u call es v run t n tells = absurd tells
 tells-stays w x h (patch p reply) u call es v run t n tells = absurd tells
 tells-stays w x h (place s reply) u call es v run t n tells = absurd tells
 tells-stays w x h (ask dot reply) u call es v run t n tells =

@@ -1,19 +1,23 @@
 -- Laws of trees.
---     sumDots-dots, allDots-dots, allDots-map      a weight over all dots, and what holds of each
+--     sumDots-dots, allDots-dots, allDots-map      a weight over all dots, and what holds of each; length-dots: how many there are
 --     shallow-le   a tree is no higher than a greater height
-use mathlib.Core.Path.{_≡_, refl, _∙_}
+use mathlib.Core.Path.{_≡_, refl, sym, _∙_}
 use Prim.Native.Nat.{ℕ, zero, suc, _≤_}
 use native.Mathlib.Omega.{arith}
+use lib.ListN.{length}
 use Rattle.model.specs.Sums.{sumOver}
 use Rattle.model.specs.Lists.{All}
-use Rattle.model.specs.Trees.{Placed, Tree, leaf, branch, sumDots, AllDots, dots, Shallow}
-use Rattle.model.specs.Laws.Sums.{sumBelow-ext}
+use Rattle.model.specs.Trees.{Placed, Tree, leaf, branch, sumDots, size, AllDots, dots, Shallow}
+use Rattle.model.specs.Laws.Sums.{sumOver-one, sumBelow-ext}
 use Rattle.model.specs.Laws.Lists.{sumOver-joinBelow, all-map, all-joinBelow}
 
 pub sumDots-dots : (h : Placed → ℕ) (t : Tree) → sumOver h (dots t) ≡ sumDots h t
 sumDots-dots h (leaf c) = refl
 sumDots-dots h (branch g f) =
     sumOver-joinBelow h 5 (λ i. dots (f i)) ∙ sumBelow-ext 5 (λ i. sumOver h (dots (f i))) (λ i. sumDots h (f i)) (λ i b. sumDots-dots h (f i))
+
+pub length-dots : (t : Tree) → length (dots t) ≡ size t
+length-dots t = sym (sumOver-one (dots t)) ∙ sumDots-dots (λ d. 1) t
 
 pub allDots-dots : (P : Placed → Type 0) (t : Tree) → AllDots P t → All P (dots t)
 allDots-dots P (leaf c) a = a

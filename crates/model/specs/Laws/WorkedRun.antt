@@ -3,11 +3,12 @@
 --     events       THE LIST, with the replies
 --     happens      it happens: the rules, computed from the fresh tree, give these replies
 --     distinct     it meets §12.6
---     promised     by Demand3: it has 14 calls, and its book is the one dot that is live
+--     promised     by Demand3: it has 15 calls, and its book is the one dot that is live
 --     refused-kept     its refused insert left all as it was (§11.7)
 --     never-sixteen    no call of it is refused 16 (§12.12)
 -- From `promised` alone, of whatever is called next and whatever it leaves:
 --     lists-three      a query lists the live id (§12.7)
+--     all-three        all lists it too (§12.13)
 --     removes-three    its remove by its rectangle says yes (§12.8)
 --     one-is-gone      a remove of an id that was removed says no (§12.9)
 --     third-says-no    D is 2: a cleanup that two came before says no (§12.10)
@@ -28,21 +29,21 @@ use Rattle.geometry.specs.Rectangles.{flat, intersects, middle, within, inverte
 use Rattle.geometry.specs.Settings.{axisFits, rootFits, inRange, W, bitsWithin, bitLength, halvings, D, contains}
 use Rattle.geometry.specs.Cells.{routeCell, mayDivide, rootCell, rootData, childCentre, quarterCell, childCell, childData, quadrant, bothTests, opens}
 use Rattle.model.specs.Sums.{indicator, changed, sumOver}
-use Rattle.model.specs.Lists.{count, All}
+use Rattle.model.specs.Lists.{count, All as Every}
 use Rattle.model.specs.declared.Dot.{Dot}
 use Rattle.model.specs.declared.Window.{Window}
 use Rattle.model.specs.declared.Ticket.{Ticket}
 use Rattle.model.specs.declared.patch.Patch.{Patch}
 use Rattle.model.specs.declared.answers.Found.{Found}
-use Rattle.model.specs.Dots.{goodInk, shows, isHit, matches}
-use Rattle.model.specs.Shapes.{fresh, inserted, splitsMade, splitsNeeded, removed, foundBy, cleaned, cleans, listed, opensFor}
+use Rattle.model.specs.Dots.{goodInk, shows, isHit, anyDot, matches}
+use Rattle.model.specs.Shapes.{fresh, inserted, splitsMade, splitsNeeded, removed, foundBy, cleaned, cleans, listed, opensFor, allIds}
 use Rattle.model.specs.Layout.{World, lengthsRight, layout}
 use Rattle.model.specs.Calls.{Reply, refused, answered, exit, largestCount, insertVerdict, insertRule, removeRule}
-use Rattle.model.specs.Calls.{cleanupRule, queryRule, Make, Remove, Cleanup, Query}
+use Rattle.model.specs.Calls.{cleanupRule, queryRule, allRule, Make, Remove, Cleanup, Query, All}
 use Rattle.model.specs.Thresholds.{thresholds, thresholdAt}
 use Rattle.model.specs.Patch.{patchFits, patchRects, patchDots, patchVerdict, patchRule}
 use Rattle.model.specs.Tickets.{askRule, placeRule}
-use Rattle.model.specs.Book.{Event, insert, remove, cleanup, query, patch, ask, place, Run, Has, Live, Distinct, Exactly, Promise, Demand3}
+use Rattle.model.specs.Book.{Event, insert, remove, cleanup, query, all, patch, ask, place, Run, Has, Live, Distinct, Exactly, Promise, Demand3}
 use Rattle.model.specs.Trials.{settings, rect}
 use Rattle.model.specs.Laws.Sums.{indicator-same}
 use Rattle.model.specs.Laws.Book.{live-count}
@@ -116,13 +117,14 @@ events =
     ∷ remove 7 (rect 3 3 4 4) (answered true)
     ∷ cleanup (answered true)
     ∷ query window (0 ∷ []) (3 ∷ []) (answered (record { hits = 1; opened = 3 }))
+    ∷ all (0 ∷ 0 ∷ []) (3 ∷ 0 ∷ []) (answered 1)
     ∷ []
 
 computed : eventsOn (fresh (settings 1) 2 3) (map callOf events) ≡ events
 unfolding flat intersects middle within inverted near farOut W bitsWithin bitLength halvings D contains
     rootCell rootData childCentre quarterCell childCell childData quadrant routeCell bothTests opens mayDivide
-    fresh inserted splitsMade splitsNeeded removed foundBy cleaned cleans listed opensFor
-    largestCount insertVerdict insertRule removeRule cleanupRule queryRule goodInk shows bitAt isHit matches indicator changed maxZ minZ
+    fresh inserted splitsMade splitsNeeded removed foundBy cleaned cleans listed opensFor allIds
+    largestCount insertVerdict insertRule removeRule cleanupRule queryRule allRule goodInk shows bitAt isHit matches indicator changed maxZ minZ
     patchFits patchRects patchDots patchVerdict patchRule thresholds thresholdAt askRule placeRule
 computed = refl
 
@@ -153,7 +155,7 @@ distinct = (
           (λ e. true-false (sym e)),
           (
             (λ e. not-live 3 (two ∷ one ∷ []) refl),
-            ((λ e. true-false (sym e)), (tt, (tt, (tt, ((λ e. tile-new), (tt, (tt, (tt, tt)))))))),
+            ((λ e. true-false (sym e)), (tt, (tt, (tt, ((λ e. tile-new), (tt, (tt, (tt, (tt, tt))))))))),
           ),
         ),
       ),
@@ -163,12 +165,12 @@ distinct = (
 
 -- ---- what is promised after it
 
--- of a book with one dot, which the query meets, just its id is listed
-module _ (q : Window) (d : Dot) where
-  listed-is : (ids : List ℕ) → Exactly q (d ∷ []) ids → (k : ℕ) → 1 ≤ count k ids → k ≡ d .id
+-- of a book with one dot, which passes the test, just its id is listed
+module _ (test : Dot → Bool) (d : Dot) where
+  listed-is : (ids : List ℕ) → Exactly test (d ∷ []) ids → (k : ℕ) → 1 ≤ count k ids → k ≡ d .id
   listed-is ids e k c = let t = e .onlyThose k c in ⊎-elim (λ p. sym (t .2) ∙ sym (ap (λ (x : Dot). x .id) p)) (λ n. absurd n) (t .1)
 
-  just-one : isHit q d ≡ true → (ids : List ℕ) → Exactly q (d ∷ []) ids → ids ≡ d .id ∷ []
+  just-one : test d ≡ true → (ids : List ℕ) → Exactly test (d ∷ []) ids → ids ≡ d .id ∷ []
   just-one hit [] e = absurd (omega (arith, e .allThose d (inl refl) hit))
   just-one hit (k ∷ []) e = ap (λ (i : ℕ). i ∷ []) (listed-is (k ∷ []) e k (omega (arith, indicator-same k)))
   just-one hit (k ∷ m ∷ ids) e =
@@ -177,14 +179,14 @@ module _ (q : Window) (d : Dot) where
       absurd (omega (arith, e .once k, indicator-same k, ap (indicator k) (second ∙ sym first)))
 
 module _ (w : World) (run : Run start events w) where
-  pub promised : Promise (settings 1) 14 w (three ∷ [])
+  pub promised : Promise (settings 1) 15 w (three ∷ [])
   unfolding Demand3 patchRects patchDots thresholds thresholdAt
   promised = demand-3 lent (settings 1) start made events w run distinct
 
   pub refused-kept : Untouched {B = ℕ} {A = ℕ} (run .0) [] (exit (run .2 .0) [] (refused 5))
   refused-kept = run-kept start (fresh (settings 1) 2 3) (made-holds lent (settings 1) start made) events w run .1 .0 .untouched (omega arith)
 
-  pub never-sixteen : All (λ e. refusalOf e ≢ 16) events
+  pub never-sixteen : Every (λ e. refusalOf e ≢ 16) events
   unfolding patchRects patchDots thresholds thresholdAt
   never-sixteen = no-sixteen lent (settings 1) start made events w run (omega arith)
 
@@ -193,7 +195,13 @@ module _ (w : World) (run : Run start events w) where
   unfolding isHit shows bitAt intersects flat maxZ minZ
   lists-three row row′ w′ reply e call =
       let l = promised .lists window row row′ w′ reply call (omega (arith, e)) in
-      (l .0, l .1, just-one window three refl (take (l .0 .hits) row′) (l .2))
+      (l .0, l .1, just-one (isHit window) three refl (take (l .0 .hits) row′) (l .2))
+
+  pub all-three : (row row′ : List ℕ) (w′ : World) (reply : Reply ℕ) → length row ≡ 1 → All w row w′ row′ reply
+      → (reply ≡ answered 1) × (take 1 row′ ≡ 3 ∷ [])
+  all-three row row′ w′ reply e call =
+      let l = promised .listsAll row row′ w′ reply call (omega (arith, e)) in
+      (l .0, just-one anyDot three refl (take 1 row′) (l .1))
 
   pub removes-three : (w′ : World) (reply : Reply Bool) → Remove w 3 (three .rect) w′ reply → reply ≡ answered true
   removes-three w′ reply call = promised .removesLive three w′ reply call (inl refl) (omega arith)

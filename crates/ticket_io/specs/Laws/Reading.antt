@@ -20,10 +20,10 @@ use Rattle.stream.specs.declared.Got.{Got}
 use Rattle.ticket.specs.declared.Program.{Program}
 use Rattle.ticket.specs.declared.Phase.{Phase}
 use Rattle.ticket.specs.declared.Phase.the-variants as phase
-use Rattle.ticket.specs.Turns.{isOver, Lent, Turn, Turns, over, turned}
+use Rattle.ticket.specs.Turns.{isOver, Lent, Turn, Turns, over}
 use Rattle.ticket.specs.Laws.Turns.{turns-append, turns-more, turns-over, never-first, turns-told}
 use Rattle.ticket_end.specs.declared.Progress.{Progress}
-use Rattle.ticket_end.specs.End.{leftOver, endPhase, Finished}
+use Rattle.ticket_end.specs.End.{leftOver, Finished}
 use Rattle.ticket_end.specs.Laws.End.{end-over}
 use Rattle.ticket_io.specs.Reading.{Chunked, ReadAnswered, some, none, failed, ReadOn, Reading, ticketLines, AllAnswered}
 

@@ -1,6 +1,7 @@
 -- A chain in the rows.
 --     stands-here  where places are left, the next one is there
 --     chained-stands       a chain of the memory stands in the rows
+--     chain-rows   a chain does not stand in the nodes
 use mathlib.Core.Path.{_≡_, ap, sym, _∙_, subst}
 use mathlib.Core.List.{List, [], _∷_}
 use Prim.Native.Nat.{ℕ, _-_, _≤_}
@@ -11,7 +12,7 @@ use Rattle.model.specs.Sums.{sumOver}
 use Rattle.model.specs.Laws.Sums.{indicator-same}
 use Rattle.model.specs.Trees.{Placed, atPlace}
 use Rattle.model.specs.Layout.{none}
-use Rattle.model.specs.Memory.{nextAt, dotAt, Chained}
+use Rattle.model.specs.Memory.{read, nextAt, dotAt, Chained}
 use Rattle.memory.specs.Rows.{HasPlace, HasRect}
 use Rattle.tree.specs.Chains.{ChainStands}
 
@@ -34,3 +35,8 @@ chained-stands dots rects firsts counts h n (d ∷ ds) inside e c =
       subst (λ (y : ℕ). ChainStands dots rects y (n - 1) ds) (ap (nextAt dots) (sym (c .0)))
           (chained-stands dots rects firsts counts (nextAt dots p) (n - 1) ds (λ k b. inside k (omega arith)) (omega arith) (c .2)),
     )
+
+pub chain-rows : (nodes nodes′ dots : List ℕ) (rects : List ℤ) (h : ℕ) (ds : List Placed) → Chained (read nodes dots rects) h ds none
+    → Chained (read nodes′ dots rects) h ds none
+chain-rows nodes nodes′ dots rects h [] s = s
+chain-rows nodes nodes′ dots rects h (d ∷ ds) s = (s .0, s .1, chain-rows nodes nodes′ dots rects (nextAt dots (d .place)) ds (s .2))

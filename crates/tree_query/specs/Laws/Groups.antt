@@ -25,7 +25,7 @@ use Rattle.model.specs.declared.answers.Found.{Found}
 use Rattle.tree.specs.Trees.{nodeTotal, TreeStands}
 use Rattle.tree.specs.Laws.Trees.{sum-step}
 use Rattle.tree_query.specs.Walks.{groupHits, groupOpened, opensBit, nextOpened, after, Left, NodeWalk, NodeWalked, GroupWalk, GroupWalked}
-use Rattle.tree_query.specs.Laws.Children.{join-step}
+use Rattle.tree.specs.Laws.Children.{join-step}
 use Rattle.tree_query.specs.Laws.Found.{left-none, left-then, left-length, hits-size, opened-total}
 
 -- the first child of those left, and the others

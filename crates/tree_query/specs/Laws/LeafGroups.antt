@@ -24,7 +24,7 @@ use Rattle.tree.specs.Laws.Trees.{sum-step}
 use Rattle.tree_query.specs.Rows.{keptAll}
 use Rattle.tree_query.specs.Leaves.{LeafStands, groupLeaves, LeavesLeft, LeafWalk, LeafWalked, LeafGroup, LeafGroupWalked}
 use Rattle.tree_query.specs.Laws.Rows.{kept-append, keptAll-length}
-use Rattle.tree_query.specs.Laws.Children.{join-step}
+use Rattle.tree.specs.Laws.Children.{join-step}
 
 -- ---- one walk after another
 

@@ -22,7 +22,7 @@ use Rattle.tree.specs.Trees.{nodeTotal}
 use Rattle.tree.specs.Laws.Trees.{not-branch, is-branch, mark-no-leaf, shallow-branch}
 use Rattle.tree_query.specs.Rows.{kept, keptAll}
 use Rattle.tree_query.specs.Leaves.{wordsOf, LeafStands, LeavesLeft, LeafWalk, LeafWalked, LeafGroup, LeafGroupWalked}
-use Rattle.tree_query.specs.Laws.Children.{join-four}
+use Rattle.tree.specs.Laws.Children.{join-four}
 
 -- a child stands a level lower
 child-stands : {nodes : List ℕ} {levels a g : ℕ} {f : ℕ → Tree} → LeafStands nodes levels a (branch g f)

@@ -2,7 +2,7 @@
 --     leaf-asks, leaf-gives        a leaf: what its chain's walk asks, and what it gives
 --     branch-level, branch-asks, branch-gives      a branch: a level is left; its group's walk
 use mathlib.Core.Path.{_≡_, ap, sym, _∙_}
-use mathlib.Core.List.{List, [], _∷_}
+use mathlib.Core.List.{List, []}
 use mathlib.Core.Bool.{Bool, true, false, cond, not}
 use Prim.Native.Nat.{ℕ, _+_, _-_, _≤_}
 use native.Mathlib.Omega.{arith}
@@ -18,8 +18,8 @@ use Rattle.model.specs.Sums.{sumBelow}
 use Rattle.model.specs.Laws.Sums.{sumOver-one}
 use Rattle.model.specs.Trees.{Placed, Tree, leaf, branch, size}
 use Rattle.model.specs.Query.{hits, opened}
-use Rattle.model.specs.Layout.{none, branchMark}
-use Rattle.model.specs.Memory.{read, firstAt, countAt, nextAt, Chained}
+use Rattle.model.specs.Layout.{branchMark}
+use Rattle.model.specs.Memory.{firstAt, countAt}
 use Rattle.model.specs.declared.answers.Found.{Found}
 use Rattle.memory.specs.declared.node.Node.{Node}
 use Rattle.memory.specs.Nodes.{nodeAt}
@@ -27,17 +27,12 @@ use Rattle.tree.specs.Trees.{nodeTotal, sumLast, TreeStands}
 use Rattle.tree.specs.Laws.Trees.{not-branch, is-branch, mark-no-leaf, shallow-branch, child-stands}
 use Rattle.tree_query.specs.Walks.{chainHits, after, rowAfter, Left, CanGrow}
 use Rattle.tree_query.specs.Walks.{ChainWalk, ChainWalked, NodeWalk, NodeWalked, GroupWalk, GroupWalked}
-use Rattle.tree_query.specs.Laws.Children.{join-five}
+use Rattle.tree.specs.Laws.Chains.{chain-rows}
+use Rattle.tree.specs.Laws.Children.{join-five}
 
 -- one node more is opened
 abbrev pub opening : Found → Found
 opening found = record { hits = found .hits; opened = found .opened + 1 }
-
--- a chain does not stand in the nodes
-module _ (nodes nodes′ dots : List ℕ) (rects : List ℤ) where
-  chain-rows : (h : ℕ) (ds : List Placed) → Chained (read nodes dots rects) h ds none → Chained (read nodes′ dots rects) h ds none
-  chain-rows h [] s = s
-  chain-rows h (d ∷ ds) s = (s .0, s .1, chain-rows (nextAt dots (d .place)) ds (s .2))
 
 module _ (nodes dots : List ℕ) (rects : List ℤ) (room : ℕ) (row : List ℕ) (found : Found) (a levels : ℕ) (q : Window) (cell : CenteredAABB)
     {node : Node} {b : Bool} (words : node ≡ nodeAt nodes a) (told : b ≡ eqb (node .count) branchMark) where

@@ -8,12 +8,12 @@ use Rattle.krakvinge.proofs.asking.krakvinge_all.Tie as tie
 
 returns-2 : tie.Need-returns-2
 returns-2 c =
-    let out : tie.After-query-out = search in
+    let out : tie.After-list-out = search in
     let called : tie.After-all = search in
     let read : tie.After-state-in = search in
     let fits : tie.Else1 = search in
     exported-read _ (fits .before .rows-fit .ensures) (fits .if1 .left)
-    (read .state-in .ensures) (called .all .ensures) refl (out .query-out .ensures)
+    (read .state-in .ensures) (called .all .ensures) refl (out .list-out .ensures)
 
 pub krakvinge-all-spec : {M : Type 1} → statement M
 krakvinge-all-spec =

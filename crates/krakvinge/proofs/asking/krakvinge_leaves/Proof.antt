@@ -8,12 +8,12 @@ use Rattle.krakvinge.proofs.asking.krakvinge_leaves.Tie as tie
 
 returns-2 : tie.Need-returns-2
 returns-2 c =
-    let out : tie.After-leaves-out = search in
+    let out : tie.After-list-out = search in
     let called : tie.After-leaves = search in
     let read : tie.After-state-in = search in
     let fits : tie.Else1 = search in
     exported-read _ (fits .before .rows-fit .ensures) (fits .if1 .left)
-    (read .state-in .ensures) (called .leaves .ensures) refl (out .leaves-out .ensures)
+    (read .state-in .ensures) (called .leaves .ensures) refl (out .list-out .ensures)
 
 pub krakvinge-leaves-spec : {M : Type 1} → statement M
 krakvinge-leaves-spec =

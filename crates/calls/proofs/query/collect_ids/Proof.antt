@@ -1,15 +1,15 @@
 -- The check, then a query with the root's rectangle, of all inks.
 use Rattle.tree_query.specs.Laws.Queries.{tree-root}
 use Rattle.calls.specs.Laws.Pattern.{checked-tree}
-use Rattle.calls.specs.Laws.Calls.{all-refused, all-answered}
+use Rattle.calls.specs.Laws.Calls.{collect-refused, collect-answered}
 use borrow.Author.Needs.{needs}
-use Rattle.calls.proofs.query.all.Statement.{statement}
-use Rattle.calls.proofs.query.all.Tie as tie
+use Rattle.calls.proofs.query.collect_ids.Statement.{statement}
+use Rattle.calls.proofs.query.collect_ids.Tie as tie
 
 returns : tie.Need-returns
 returns c =
     let checked : tie.After-check = search in
-    all-refused (checked .check .ensures) _ (c .if1 .taken)
+    collect-refused (checked .check .ensures) _ (c .if1 .taken)
 
 root-rect-requires : tie.Need-root-rect-requires
 root-rect-requires c κs =
@@ -30,10 +30,10 @@ returns-2 c =
     let root : tie.After-root-rect = search in
     let tree : tie.Else1 = search in
     let checked : tie.After-check = search in
-    all-answered (checked .check .ensures) _ (tree .if1 .left) (root .root-rect .ensures) (window .all-inks .ensures) _ _ (done .query-row .ensures)
+    collect-answered (checked .check .ensures) _ (tree .if1 .left) (root .root-rect .ensures) (window .all-inks .ensures) _ _ (done .query-row .ensures)
 
-pub all-spec : {M : Type 1} → statement M
-all-spec =
+pub collect-ids-spec : {M : Type 1} → statement M
+collect-ids-spec =
     tie.close
     (tie.spec
     -- the check

@@ -8,7 +8,7 @@ use Prim.Native.Nat.{ℕ, zero, suc, _+_, _-_, _≤_}
 use native.Mathlib.Numerals.{sub-one}
 use native.Mathlib.Omega.{arith}
 use Rattle.model.specs.Lists.{joinBelow}
-use Rattle.tree_query.specs.Walks.{joinLast}
+use Rattle.tree.specs.Trees.{joinLast}
 
 module _ {A : Type 0} (f : ℕ → List A) where
   pub join-step : (left : ℕ) → 1 ≤ left → joinLast left f ≡ f (5 - left) ++ joinLast (left - 1) f
