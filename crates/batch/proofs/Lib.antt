@@ -1,3 +1,2 @@
--- Steps of the walk that say nothing of the batch.
-pub mod Locals
-pub mod Relend
+-- The laws about the definitions of specs/.
+pub mod Laws

@@ -1,4 +1,6 @@
 // The batch: the records of a lent row are carried out in order, each with an answer word in a row as long.
+#![tactic(auto)]
+
 ghost use Rattle.std.specs.Prelude.{◌≡◌, ◌<◌, length, get_or};
 ghost use Rattle.model.specs.Layout.{world};
 ghost use Rattle.model.specs.Calls.{Batch};

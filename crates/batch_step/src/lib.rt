@@ -1,4 +1,6 @@
 // The steps of a batch: the check of all that it is lent, then record after record.
+#![tactic(auto)]
+
 ghost use Rattle.std.specs.Prelude.{◌≡◌, ◌<◌, ◌≤◌, length};
 ghost use Rattle.model.specs.declared.Dot.{Dot};
 ghost use Rattle.model.specs.Calls.{refusal, carry_out, refused_word, yes_no};
@@ -14,7 +16,7 @@ use tree_insert::insert_dot;
 use tree_remove::remove_dot;
 
 // The refusal of the whole batch, or 0; how many records it carries out; the state after it.
-#[derive(Drop)]
+#[derive(Clone, Copy)]
 pub struct Batched {
     pub refusal: u32,
     pub count: usize,
@@ -22,7 +24,7 @@ pub struct Batched {
 }
 
 // What a record leaves: its answer word, and the state after it.
-#[derive(Drop)]
+#[derive(Clone, Copy)]
 pub struct Recorded {
     pub word: u32,
     pub state: State,

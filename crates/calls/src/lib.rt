@@ -1,4 +1,6 @@
 // The public calls. Each but make begins with the check of the memory that it is lent.
+#![tactic(auto)]
+
 pub mod all;
 pub mod ask;
 pub mod cleanup;
@@ -11,4 +13,3 @@ pub mod query;
 pub mod references;
 pub mod remove;
 pub mod report;
-pub mod threads;

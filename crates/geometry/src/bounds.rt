@@ -7,7 +7,7 @@ use crate::aabb::AABB;
 use crate::centered_aabb::CenteredAABB;
 
 // Above x_over and at most x_upto; above y_over and at most y_upto.
-#[derive(Drop)]
+#[derive(Clone, Copy)]
 pub struct Bounds {
     pub x_over: i32,
     pub x_upto: i32,

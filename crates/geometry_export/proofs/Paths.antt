@@ -13,7 +13,7 @@ use Rattle.geometry.specs.declared.node_data.NodeData.{NodeData}
 use Rattle.geometry.specs.declared.settings.Settings.{Settings}
 use Rattle.geometry.specs.Settings.{in_range}
 use Rattle.geometry.specs.Cells.{InRange, root_data, child_data, data_along}
-use Rattle.geometry.specs.Laws.Ranges.{accepted, root-range, child-range, along-depth}
+use Rattle.geometry.proofs.Laws.Ranges.{accepted, root-range, child-range, along-depth}
 use Rattle.geometry_export.specs.Nodes.{zero_data, reached}
 
 pub record Walked (start : NodeData) (path : List ℕ) (node : NodeData) (i : ℕ) : Type 0 where

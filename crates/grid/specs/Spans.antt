@@ -2,8 +2,8 @@
 --     first_met, past_met    two floor divisions of natural numbers; `natural` is 0 for a negative number
 --     columns_met, rows_met  the columns and the rows that a rectangle meets, of those that the grid has
 --     span_length, in_span   how many windows a span has, and whether a window is one of them
-use Rattle.std.specs.Prelude.{Bool, cond, ◌&&◌, ℕ, ◌-◌, min, ℤ, pos, ◌+ℤ◌, ◌-ℤ◌, leb, ltb}
-use Rattle.arithmetic.specs.Ints.{least_step, steps_to}
+use Rattle.std.specs.Prelude.{Bool, cond, ◌&&◌, ℕ, ◌-◌, ◌/◌, min, ℤ, pos, ◌+ℤ◌, ◌-ℤ◌, leb, ltb}
+use Rattle.arithmetic.specs.Ints.{natural, least_step}
 use Rattle.geometry.specs.declared.aabb.AABB.{AABB}
 use Rattle.geometry.specs.Rectangles.{flat}
 use Rattle.grid.specs.declared.grid.Grid.{Grid}
@@ -11,8 +11,8 @@ use Rattle.grid.specs.declared.grid.Span.{Span}
 use Rattle.grid.specs.Grids.{across, down, columns_of, rows_of}
 
 -- how many windows end before a (at it or before, where a touch is not enough)
-abbrev pub first_met : Bool → ℤ → ℕ → ℤ → ℕ
-first_met touching first size a = steps_to touching first size a
+unfoldable pub first_met : Bool → ℤ → ℕ → ℤ → ℕ
+first_met touching first size a = natural (cond touching ((a -ℤ first) -ℤ pos 1) (a -ℤ first)) / size
 
 -- how many windows begin before b (at it or before, where a touch is enough)
 unfoldable pub past_met : Bool → ℤ → ℕ → ℤ → ℕ

@@ -7,7 +7,7 @@ use crate::axis;
 use geometry::aabb::AABB;
 
 // Of any numbers: §19.3 says which are in range.
-#[derive(Drop)]
+#[derive(Clone, Copy)]
 pub struct Grid {
     pub x: i32,
     pub y: i32,
@@ -18,7 +18,7 @@ pub struct Grid {
 }
 
 // The windows on one axis from a number on and before another: none, if `to` is no larger.
-#[derive(Drop)]
+#[derive(Clone, Copy)]
 pub struct Span {
     pub from: u32,
     pub to: u32,

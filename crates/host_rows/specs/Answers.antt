@@ -1,7 +1,7 @@
 -- What an exported call writes and returns, by its reply (§18.3, §18.4).
 --     result_of     what is returned: 0 or the refusal, 8 with 256 times the number wanted added
 --     state_row, answer_row  the state row and the answer row after a reply; a refused call leaves them as they were
---     number, yes_or_no, splits_told, hits_opened, any_both, wide    the two words of an answer
+--     number, yes_or_no, splits_told, hits_opened, wide        the two words of an answer
 --     Out          an answer row and a result, by a reply
 --     made_row      the state row after a make
 use Rattle.std.specs.Prelude.{◌≡◌, List, [], ◌∷◌, Bool, ℕ, ◌+◌, ◌*◌}
@@ -10,7 +10,6 @@ use Rattle.model.specs.declared.State.{State}
 use Rattle.model.specs.declared.answers.Asked.{Asked}
 use Rattle.model.specs.declared.answers.Found.{Found}
 use Rattle.model.specs.declared.answers.MakeAnswer.{MakeAnswer}
-use Rattle.thread_count.specs.declared.Met.{Met}
 use Rattle.model.specs.Calls.{Reply, refused, too_many, answered, refusal, yes_no}
 use Rattle.model.specs.Answers.{make_reply, make_state}
 use Rattle.host_rows.specs.Rows.{state_in, with_state}
@@ -43,9 +42,6 @@ splits_told a = number a.splits
 
 abbrev pub hits_opened : Found → List ℕ
 hits_opened l = l.hits ∷ l.opened ∷ []
-
-abbrev pub any_both : Met → List ℕ
-any_both m = m.any ∷ m.both ∷ []
 
 -- §18.8: a number of 64 bits, the low word first
 abbrev pub wide : ℕ → List ℕ

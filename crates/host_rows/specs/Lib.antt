@@ -3,9 +3,7 @@
 --     Tickets      a ticket as eight words
 --     Records      a batch's records as words, seven each
 --     Answers      what a call writes and returns, by its reply
---     Laws         the laws of these
 pub mod Rows
 pub mod Tickets
 pub mod Records
 pub mod Answers
-pub mod Laws

@@ -4,12 +4,11 @@
 --     state_in      the state in a row; CountFits: the low word of its count is one
 --     with_state    the row with another state of the same settings
 --     rows_fit      a state row of twelve words, an answer row of two
---     rect_of, grid_of, patch_of, threads_of   a rectangle by its corners; a grid and a patch by their six numbers; threads by their four
+--     rect_of, grid_of, patch_of      a rectangle by its corners; a grid and a patch by their six numbers
 use Rattle.std.specs.Prelude.{List, Bool, ◌&&◌, ℕ, ◌+◌, ◌<◌, eqb, ℤ, length, get_or, set}
 use Rattle.geometry.specs.declared.aabb.AABB.{AABB}
 use Rattle.geometry.specs.declared.settings.Settings.{Settings}
 use Rattle.grid.specs.declared.grid.Grid.{Grid}
-use Rattle.mesh.specs.declared.threads.Threads.{Threads}
 use Rattle.words.specs.Words.{signed, low_word, high_word, wide_of}
 use Rattle.model.specs.declared.Dot.{Dot}
 use Rattle.model.specs.declared.State.{State}
@@ -23,9 +22,6 @@ grid_of x y width height columns rows = record { x = x; y = y; width = width; he
 
 abbrev pub patch_of : ℤ → ℤ → ℕ → ℕ → ℕ → ℕ → Patch
 patch_of x y columns rows tint first = record { x = x; y = y; columns = columns; rows = rows; tint = tint; first_id = first }
-
-abbrev pub threads_of : ℤ → ℤ → ℤ → ℤ → Threads
-threads_of first thickness pitch number = record { first = first; thickness = thickness; pitch = pitch; number = number }
 
 unfoldable pub settings_in : List ℕ → Settings
 settings_in row =

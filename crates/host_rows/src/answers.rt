@@ -2,10 +2,9 @@
 ghost use Rattle.std.specs.Prelude.{◌≡◌, length};
 ghost use Rattle.model.specs.Answers.{make_reply, insert_reply, insert_state, yes_no_reply, yes_no_state, ask_reply, query_reply};
 ghost use Rattle.model.specs.Answers.{list_reply, references_reply, grid_reply, patch_reply, patch_state};
-ghost use Rattle.thread_count.specs.Count.{thread_reply};
 ghost use Rattle.host_rows.specs.Rows.{CountFits, state_in};
 ghost use Rattle.host_rows.specs.Tickets.{ticket_row};
-ghost use Rattle.host_rows.specs.Answers.{number, yes_or_no, splits_told, hits_opened, any_both, wide, result_of, state_row, made_row, Out};
+ghost use Rattle.host_rows.specs.Answers.{number, yes_or_no, splits_told, hits_opened, wide, result_of, state_row, made_row, Out};
 
 use crate::rows::{answer_out, state_out, too_many};
 use crate::tickets::ticket_out;
@@ -13,7 +12,6 @@ use model::answers::{
     AskAnswer, GridAnswer, InsertAnswer, ListAnswer, MakeAnswer, PatchAnswer, QueryAnswer,
     ReferencesAnswer, YesNoAnswer,
 };
-use thread_count::ThreadAnswer;
 use words::{high_word, low_word};
 
 // Of make: nothing beside the state.
@@ -153,20 +151,6 @@ pub fn grid_out(answer: &mut [u32], done: GridAnswer) -> u64
         GridAnswer::TooMany(many) => too_many(many),
         GridAnswer::Counted(total) => {
             answer_out(answer, low_word(total), high_word(total));
-            0
-        }
-    }
-}
-
-// Of the thread count: the dots that meet a thread, those that meet one of each family.
-pub fn threads_out(answer: &mut [u32], done: ThreadAnswer) -> u64
-    requires { length answer.old ≡ 2 }
-    ensures { Out any_both (thread_reply done) answer.old answer.new result }
-{
-    match done {
-        ThreadAnswer::Refused(refusal) => refusal as u64,
-        ThreadAnswer::Counted(met) => {
-            answer_out(answer, met.any, met.both);
             0
         }
     }

@@ -1,12 +1,10 @@
 -- What each exported call leaves in the rows that it is lent, by the model's statement of the call (§18).
 --     Lent         the rows: state, nodes, dots, rectangles, marks, answer
 --     Exported     THE PATTERN: refusal 1 where the host's own rows don't fit, else the call
---     Inserts, Asks, Places, Removes, CleansUp, Queries, CollectsIds, ListsAll, ListsLeaves, CountsDots, Reports, CountsThreads, Batches, LaysPatch, Makes, Checks
+--     Inserts, Asks, Places, Removes, CleansUp, Queries, CollectsIds, ListsAll, ListsLeaves, CountsDots, Reports, Batches, LaysPatch, Makes, Checks
 use Rattle.std.specs.Prelude.{◌≡◌, List, [], Bool, true, false, ℕ, ℤ, length}
 use Rattle.geometry.specs.declared.aabb.AABB.{AABB}
 use Rattle.grid.specs.declared.grid.Grid.{Grid}
-use Rattle.mesh.specs.declared.threads.Threads.{Threads}
-use Rattle.mesh.specs.declared.mesh.Mesh.{Mesh}
 use Rattle.model.specs.declared.Dot.{Dot}
 use Rattle.model.specs.declared.State.{State}
 use Rattle.model.specs.declared.patch.Patch.{Patch}
@@ -20,13 +18,11 @@ use Rattle.model.specs.Patch.{patch_fits, LayPatch}
 use Rattle.model.specs.Tickets.{Ask, Place}
 use Rattle.model.specs.declared.answers.MakeAnswer.{MakeAnswer}
 use Rattle.model.specs.Answers.{make_reply, make_state}
-use Rattle.thread_count.specs.declared.Met.{Met}
-use Rattle.thread_count.specs.Count.{ThreadCount}
 use Rattle.tree_check.specs.Checks.{Checked}
 use Rattle.host_rows.specs.Rows.{settings_in, state_in, rows_fit}
 use Rattle.host_rows.specs.Tickets.{ticket_in, ticket_row, ticket_fits}
 use Rattle.host_rows.specs.Records.{records_in, batch_fits}
-use Rattle.host_rows.specs.Answers.{result_of, state_row, number, yes_or_no, splits_told, hits_opened, any_both, wide, Out, made_row}
+use Rattle.host_rows.specs.Answers.{result_of, state_row, number, yes_or_no, splits_told, hits_opened, wide, Out, made_row}
 
 pub record Lent : Type 0 where
   pub state : List ℕ
@@ -102,14 +98,6 @@ abbrev pub Reports : Grid → Lent → List ℕ → Lent → List ℕ → ℕ �
 Reports g l row l' row' result =
     Exported (rows_fit l.state l.answer) wide (λ (w : World) (counts : List ℕ) (w' : World) (counts' : List ℕ)
     (reply : Reply ℕ). GridReport w g counts w' counts' reply) l row l' row' result
-
-abbrev pub mesh_of : Threads → Threads → Mesh
-mesh_of upright cross = record { upright = upright; cross = cross }
-
-abbrev pub CountsThreads : Mesh → Lent → Lent → ℕ → Type 0
-CountsThreads m l l' result =
-    Exported (rows_fit l.state l.answer) any_both (λ (w : World) (row : List ℕ) (w' : World) (row' : List ℕ)
-    (reply : Reply Met). ThreadCount w m w' reply) l [] l' [] result
 
 -- the row is the answers'; the batch has no answer row beside it
 abbrev pub Batches : List ℕ → Lent → List ℕ → Lent → List ℕ → ℕ → Type 0

@@ -1,9 +1,11 @@
 // Lines out of bytes that come in pieces: a row keeps the part of a line that has come so far.
+#![tactic(auto)]
+
 ghost use Rattle.std.specs.Prelude.{◌≤◌, length};
 ghost use Rattle.line_reader.specs.Steps.{Kept, Finds};
 
 // A whole line at the row's front and the place after its LF, or all bytes are taken; and how many bytes the line, or the part kept, has.
-#[derive(Drop)]
+#[derive(Clone, Copy)]
 pub enum Found {
     Line(usize, usize),
     More(usize),

@@ -4,10 +4,8 @@
 --     Lines        the lines of calls: THE STATEMENT of what a line is
 --     Grids        the line of a grid
 --     Report       the report's text
---     Laws         reading and text agree
 pub mod Text
 pub mod Reading
 pub mod Lines
 pub mod Grids
 pub mod Report
-pub mod Laws

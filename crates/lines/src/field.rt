@@ -23,7 +23,7 @@ fn comma_from(line: &[u8], from: usize) -> usize
 }
 
 // A number and the place after its field.
-#[derive(Drop)]
+#[derive(Clone, Copy)]
 pub struct NaturalField {
     pub ok: bool,
     pub value: u32,
@@ -53,7 +53,7 @@ pub fn read_natural(line: &[u8], at: usize) -> NaturalField
     }
 }
 
-#[derive(Drop)]
+#[derive(Clone, Copy)]
 pub struct IntegerField {
     pub ok: bool,
     pub value: i32,
@@ -84,7 +84,7 @@ pub fn read_integer(line: &[u8], at: usize) -> IntegerField
 }
 
 // Four integers: a rectangle, or the root's left, top, width and height.
-#[derive(Drop)]
+#[derive(Clone, Copy)]
 pub struct Four {
     pub ok: bool,
     pub rect: AABB,
@@ -113,7 +113,7 @@ pub fn read_four(line: &[u8], at: usize) -> Four
 }
 
 // Three numbers: depth limit, leaf limit and smallest cell.
-#[derive(Drop)]
+#[derive(Clone, Copy)]
 pub struct Three {
     pub ok: bool,
     pub depth_limit: u32,

@@ -6,14 +6,14 @@ ghost use Rattle.lines.specs.Grids.{grid_kinds, grid_values, GridLineOf};
 use crate::field::{read_four, read_integer};
 use grid::grid::Grid;
 
-#[derive(Drop)]
+#[derive(Clone, Copy)]
 pub enum GridLine {
     Grid(Grid),
     Other,
 }
 
 // A grid, if it is all that follows the letter.
-#[derive(Drop)]
+#[derive(Clone, Copy)]
 struct GridFields {
     pub ok: bool,
     pub grid: Grid,

@@ -8,7 +8,7 @@ use geometry::settings::Settings;
 use model::Dot;
 
 // An insert's line may end in an ink: `Insert` is one that does not, `InsertInk` one that does.
-#[derive(Drop)]
+#[derive(Clone, Copy)]
 pub enum Call {
     Settings(Settings),
     Insert(u32, AABB),
@@ -18,14 +18,14 @@ pub enum Call {
     Query(AABB),
 }
 
-#[derive(Drop)]
+#[derive(Clone, Copy)]
 pub enum Line {
     Call(Call),
     Unreadable,
 }
 
 // Settings, if they are all that follows the letter.
-#[derive(Drop)]
+#[derive(Clone, Copy)]
 struct SettingsFields {
     pub ok: bool,
     pub settings: Settings,
@@ -54,7 +54,7 @@ fn settings_fields(line: &[u8]) -> SettingsFields
 }
 
 // An id, a rectangle and an ink: whether the first two are all that follows the letter, and whether all three are.
-#[derive(Drop)]
+#[derive(Clone, Copy)]
 struct DotFields {
     pub without_ink: bool,
     pub with_ink: bool,
@@ -63,8 +63,8 @@ struct DotFields {
 
 fn dot_fields(line: &[u8]) -> DotFields
     requires { 1 ≤ length line.now }
-    ensures numbers_of { NumbersOf (Call.Insert result.dot.id result.dot.rect) line.now result.without_ink }
-    ensures numbers_of_2 { NumbersOf (Call.InsertInk result.dot) line.now result.with_ink }
+    ensures plain { NumbersOf (Call.Insert result.dot.id result.dot.rect) line.now result.without_ink }
+    ensures inked { NumbersOf (Call.InsertInk result.dot) line.now result.with_ink }
 {
     let id = read_natural(line, 1);
     let corners = read_four(line, id.next);

@@ -48,7 +48,7 @@ fn wide(b: u8) -> u64
 }
 
 // A number, if the bytes are one's text.
-#[derive(Drop)]
+#[derive(Clone, Copy)]
 pub struct Natural {
     pub ok: bool,
     pub value: u32,
@@ -64,7 +64,7 @@ pub fn natural_of(part: &[u8]) -> Natural
     Natural { ok, value }
 }
 
-#[derive(Drop)]
+#[derive(Clone, Copy)]
 pub struct Integer {
     pub ok: bool,
     pub value: i32,

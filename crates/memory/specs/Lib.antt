@@ -3,9 +3,7 @@
 --     Rows         which numbers a row has words for, and the rows after a store
 --     Lengths      the test of the lengths
 --     Fresh        the words of the fresh tree
---     Laws         the laws of these
 pub mod Nodes
 pub mod Rows
 pub mod Lengths
 pub mod Fresh
-pub mod Laws

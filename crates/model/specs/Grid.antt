@@ -1,4 +1,5 @@
 -- The window grid report (§19.2, §19.4).
+--     live_dots                 the dots in the tree
 --     over_windows              over all windows, in the report's order
 --     count_of                  how many dots of a list intersect a window
 --     Pair, pairs, total_of     the pairs of a dot and a window, and how many of them intersect
@@ -6,15 +7,18 @@
 --     grid_counts               the counts in that order; WindowLine, gridLines: the report's lines
 --     dots_total                the total as it is worked out from the dots
 --     GridOf                   what a report says of dots
-use Rattle.std.specs.Prelude.{◌≡◌, List, [], ◌∷◌, Bool, ℕ, ◌+◌, ◌*◌, ◌<◌, length, get_or}
+use Rattle.std.specs.Prelude.{◌≡◌, List, [], ◌∷◌, map, Bool, ℕ, ◌+◌, ◌*◌, ◌<◌, length, get_or}
 use Rattle.geometry.specs.Rectangles.{intersects}
 use Rattle.grid.specs.declared.grid.Grid.{Grid}
 use Rattle.grid.specs.Grids.{columns_of, rows_of, window}
 use Rattle.grid.specs.Spans.{columns_met, rows_met, span_length}
 use Rattle.model.specs.declared.Dot.{Dot}
 use Rattle.model.specs.Lists.{join_below, join_over, filter}
-use Rattle.model.specs.Trees.{sum_dots}
-use Rattle.model.specs.Shapes.{Shape, live_dots}
+use Rattle.model.specs.Trees.{dots, sum_dots}
+use Rattle.model.specs.Shapes.{Shape}
+
+abbrev pub live_dots : Shape → List Dot
+live_dots x = map (λ d. d.dot) (dots x.tree)
 
 -- §3.2, of any ink
 abbrev pub meets_window : Grid → ℕ → ℕ → Dot → Bool

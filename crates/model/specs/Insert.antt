@@ -2,9 +2,11 @@
 --     deal         a chain dealt to the five children
 --     must_split    the leaf is full and may split
 --     insert_at     the tree that an insert leaves, the groups then free, and the number of splits that it made
+--     split_count   the splits with groups enough
 -- `levels` is how many levels may still be split below the node: D at the root. It never runs out (`levels-suffice` of Laws.Insert, `levels-root` of
 -- the geometry).
 use Rattle.std.specs.Prelude.{List, [], ◌∷◌, Bool, cond, ◌&&◌, ℕ, zero, suc, ◌+◌, length, leb}
+use Rattle.geometry.specs.declared.aabb.AABB.{AABB}
 use Rattle.geometry.specs.declared.settings.Settings.{Settings}
 use Rattle.geometry.specs.declared.node_data.NodeData.{NodeData}
 use Rattle.geometry.specs.Cells.{child_data, route, may_split}
@@ -50,3 +52,13 @@ module _ (s : Settings) where
       let i = route_dot n d in
       let below = insert_at levels (child_data n i) d (f i) free in
       record { tree = branch g (changed f i below.tree); free = below.free; splits = below.splits }
+
+-- The splits of an insert with groups enough, counted by a recursion of their own: what the code that counts them is proved with.
+module _ (S : Settings) where
+  abbrev pub split_count : ℕ → NodeData → AABB → Tree → ℕ
+  split_count zero n r t = 0
+  split_count (suc levels) n r (leaf chain) =
+      let i = route n r in
+      let more = 1 + split_count levels (child_data n i) r (dealt n chain i) in
+      cond (must_split S n chain) more 0
+  split_count (suc levels) n r (branch g f) = let i = route n r in split_count levels (child_data n i) r (f i)

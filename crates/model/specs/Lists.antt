@@ -7,9 +7,7 @@
 --     count k xs       how often k stands in xs
 --     Permutation xs ys    each number stands as often in both
 --     Sublist xs ys    xs is ys with some elements left out
---     any_of test xs    some element passes the test
---     is_in k xs, without_repeats xs, common xs ys       lists as sets: whether k stands in xs, each number of xs once, those of xs that stand in ys
-use Rattle.std.specs.Prelude.{◌≡◌, List, [], ◌∷◌, ◌++◌, Bool, false, cond, ◌||◌, ℕ, zero, suc, eqb}
+use Rattle.std.specs.Prelude.{◌≡◌, List, [], ◌∷◌, ◌++◌, Bool, cond, ℕ, zero, suc}
 use Rattle.model.specs.Sums.{indicator, sum_over}
 
 module _ {ℓ} {A : Type ℓ} where
@@ -42,18 +40,3 @@ pub data Sublist {A : Type 0} : List A → List A → Type 0 where
   empty : Sublist [] []
   taken : {x : A} {xs ys : List A} → Sublist xs ys → Sublist (x ∷ xs) (x ∷ ys)
   left_out : {y : A} {xs ys : List A} → Sublist xs ys → Sublist xs (y ∷ ys)
-
-abbrev pub any_of : {A : Type 0} → (A → Bool) → List A → Bool
-any_of test [] = false
-any_of test (x ∷ xs) = test x || any_of test xs
-
-abbrev pub is_in : ℕ → List ℕ → Bool
-is_in k xs = any_of (eqb k) xs
-
--- each number where it stands last
-abbrev pub without_repeats : List ℕ → List ℕ
-without_repeats [] = []
-without_repeats (x ∷ xs) = cond (is_in x xs) (without_repeats xs) (x ∷ without_repeats xs)
-
-abbrev pub common : List ℕ → List ℕ → List ℕ
-common xs ys = filter (λ k. is_in k ys) xs

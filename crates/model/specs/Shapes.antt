@@ -124,10 +124,6 @@ listed q x = map id_of (hits q (root x) x.tree)
 unfoldable pub opens_for : AABB → Shape → ℕ
 opens_for q x = opened q (root x) x.tree
 
--- the dots in the tree
-abbrev pub live_dots : Shape → List Dot
-live_dots x = map (λ d. d.dot) (dots x.tree)
-
 -- All (§8.7): the ids of all dots; `dots` has their order
 unfoldable pub all_ids : Shape → List ℕ
 all_ids x = map id_of (dots x.tree)

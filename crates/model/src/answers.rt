@@ -2,21 +2,21 @@
 use crate::{State, Ticket};
 
 // The state of the fresh tree.
-#[derive(Drop)]
+#[derive(Clone, Copy)]
 pub enum MakeAnswer {
     Refused(u32),
     Made(State),
 }
 
 // Of an insert and of a placing: the number of splits, and the state after them.
-#[derive(Drop)]
+#[derive(Clone, Copy)]
 pub enum InsertAnswer {
     Refused(u32),
     Splits(u32, State),
 }
 
 // Of a remove and of a cleanup: yes, with the state after it; or no, and nothing is changed.
-#[derive(Drop)]
+#[derive(Clone, Copy)]
 pub enum YesNoAnswer {
     Refused(u32),
     Yes(State),
@@ -24,27 +24,27 @@ pub enum YesNoAnswer {
 }
 
 // What an ask tells: the splits that the insert would make, and the ticket for it.
-#[derive(Drop)]
+#[derive(Clone, Copy)]
 pub struct Asked {
     pub splits: u32,
     pub ticket: Ticket,
 }
 
-#[derive(Drop)]
+#[derive(Clone, Copy)]
 pub enum AskAnswer {
     Refused(u32),
     Told(Asked),
 }
 
 // What a query finds: how many dots it meets, and how many nodes it opens.
-#[derive(Drop)]
+#[derive(Clone, Copy)]
 pub struct Found {
     pub hits: u32,
     pub opened: u32,
 }
 
 // Refusal 8, with how many ids there are; or what was found, whose ids the row now begins with.
-#[derive(Drop)]
+#[derive(Clone, Copy)]
 pub enum QueryAnswer {
     Refused(u32),
     TooMany(u32),
@@ -52,7 +52,7 @@ pub enum QueryAnswer {
 }
 
 // Of all and of leaves: refusal 8, with how many ids or leaves there are; or how many the row now begins with.
-#[derive(Drop)]
+#[derive(Clone, Copy)]
 pub enum ListAnswer {
     Refused(u32),
     TooMany(u32),
@@ -60,14 +60,14 @@ pub enum ListAnswer {
 }
 
 // The number of dots.
-#[derive(Drop)]
+#[derive(Clone, Copy)]
 pub enum ReferencesAnswer {
     Refused(u32),
     Count(u32),
 }
 
 // Refusal 8, with how many windows there are; or the total, and the row now begins with the counts.
-#[derive(Drop)]
+#[derive(Clone, Copy)]
 pub enum GridAnswer {
     Refused(u32),
     TooMany(u32),
@@ -75,7 +75,7 @@ pub enum GridAnswer {
 }
 
 // The number of dots laid, and the state after them.
-#[derive(Drop)]
+#[derive(Clone, Copy)]
 pub enum PatchAnswer {
     Refused(u32),
     Laid(u32, State),

@@ -3,7 +3,7 @@ ghost use Rattle.std.specs.Prelude.{◌≡◌};
 ghost use Rattle.model.specs.Patch.{patch_fits};
 
 // Its first corner, its tiles each way, its tint and its first id.
-#[derive(Drop)]
+#[derive(Clone, Copy)]
 pub struct Patch {
     pub x: i32,
     pub y: i32,

@@ -1,4 +1,6 @@
 // The query and all without the check, for the benchmark: the caller answers for the tree.
+#![tactic(auto)]
+
 ghost use Rattle.std.specs.Prelude.{◌≡◌, length};
 ghost use Rattle.tree.specs.Operations.{IsTree, HasDots};
 ghost use Rattle.host_rows.specs.Rows.{state_in, rect_of};

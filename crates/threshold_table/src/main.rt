@@ -1,10 +1,13 @@
 // Prints the source text of the table of thresholds, crates/tint/src/table.rt, by the rule that makes it (docs/SPECIFICATION.md §20.2).
+#![tactic(auto)]
+
 ghost use Rattle.std.specs.Prelude.{◌≡◌, ◌<◌, ◌≤◌};
 ghost use Rattle.model.specs.Thresholds.{threshold_at};
 ghost use Rattle.threshold_table.specs.Quarters.{quarter_of};
 
-use libc::STDOUT_FILENO;
-use stream::write_bytes;
+use std::io;
+use std::io::Write;
+use stream::{Stream, write_bytes};
 
 // What is added in a quarter, by its column and its row: 0 and 2 above, 3 and 1 below.
 fn quarter(column: u32, row: u32) -> u32
@@ -35,7 +38,7 @@ fn digit(number: u32) -> u8 {
 }
 
 // A line of the table.
-fn write_entry(number: u32)
+fn write_entry<W: Write>(output: &mut Stream<W>, number: u32)
     requires { number ≤ 255 }
 {
     let mut text = [0u8; 5];
@@ -44,25 +47,27 @@ fn write_entry(number: u32)
     text[2] = digit(number);
     text[3] = 44;
     text[4] = 10;
-    write_bytes(STDOUT_FILENO, b"    ");
+    write_bytes(output, b"    ");
     if number >= 100 {
-        write_bytes(STDOUT_FILENO, &text[0..5]);
+        write_bytes(output, &text[0..5]);
     } else {
         if number >= 10 {
-            write_bytes(STDOUT_FILENO, &text[1..5]);
+            write_bytes(output, &text[1..5]);
         } else {
-            write_bytes(STDOUT_FILENO, &text[2..5]);
+            write_bytes(output, &text[2..5]);
         }
     }
 }
 
-fn main() {
+fn main(rt: HostRuntime) -> io::Result<()> {
+    let mut output = Stream::new(rt.stdout());
     write_bytes(
-        STDOUT_FILENO,
+        &mut output,
         b"// The thresholds of a tile, row by row.\npub const THRESHOLDS: [u8; 256] = [\n",
     );
     for place in 0u32..256 {
-        write_entry(threshold(place % 16, place / 16));
+        write_entry(&mut output, threshold(place % 16, place / 16));
     }
-    write_bytes(STDOUT_FILENO, b"];\n");
+    write_bytes(&mut output, b"];\n");
+    output.failure.map_or(Ok(()), Err)
 }

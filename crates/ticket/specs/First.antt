@@ -10,7 +10,6 @@ use Rattle.model.specs.Calls.{Reply, refused, too_many, answered, Make}
 use Rattle.lines.specs.Text.{answer}
 use Rattle.lines.specs.Reading.{Output, Written}
 use Rattle.lines.specs.Lines.{LineOf}
-use Rattle.lines.specs.declared.line.Call.{Call}
 use Rattle.lines.specs.declared.line.Call.TheVariants as call
 use Rattle.lines.specs.declared.line.Line.{Line}
 use Rattle.lines.specs.declared.line.Line.TheVariants as line

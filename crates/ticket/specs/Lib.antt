@@ -4,10 +4,8 @@
 --     Report       a later line of gridreport
 --     Room         room for the longest answer
 --     Turns        a line by the phase of the program, and lines one after another
---     Laws         the proofs
 pub mod Ticket
 pub mod First
 pub mod Report
 pub mod Room
 pub mod Turns
-pub mod Laws

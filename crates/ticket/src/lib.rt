@@ -1,29 +1,31 @@
 // What the lines of a ticket are answered (specs/), and what a program carries from one line to the next.
+#![tactic(auto)]
+
 use model::State;
 
 // The state of the fresh tree, or the end; and where the answer's bytes end.
-#[derive(Drop)]
+#[derive(Clone, Copy)]
 pub enum Start {
     Going(State, usize),
     Ended(usize),
 }
 
 // The state after a line, and where the answer's bytes end.
-#[derive(Drop)]
+#[derive(Clone, Copy)]
 pub struct Step {
     pub state: State,
     pub next: usize,
 }
 
 // The programs that answer a ticket.
-#[derive(Drop)]
+#[derive(Clone, Copy)]
 pub enum Program {
     Dotcheck,
     Gridreport,
 }
 
 // Before the first line, on a tree, at the end, or after an answer that could not be written.
-#[derive(Drop)]
+#[derive(Clone, Copy)]
 pub enum Phase {
     First,
     Going(State),

@@ -1,4 +1,6 @@
 // The call that a line of a ticket is, and the answer to a line that is none.
+#![tactic(auto)]
+
 ghost use Rattle.std.specs.Prelude.{◌≡◌, ◌+◌, ◌*◌, ◌≤◌, length};
 ghost use Rattle.model.specs.Layout.{world};
 ghost use Rattle.lines.specs.Reading.{output, Written};
@@ -15,7 +17,7 @@ use ticket_queries::answer_listing;
 pub fn answer_nine(state: State, out: &mut [u8]) -> Step
     requires { 24 ≤ length out.old }
     ensures next_in_bounds { result.next ≤ length out.new }
-    ensures state_value { (result.state ≡ state) × Written (output out.old out.new result.next) (refusal_line 9) }
+    ensures unreadable { (result.state ≡ state) × Written (output out.old out.new result.next) (refusal_line 9) }
 {
     let next = answer_one(out, b'E', 9);
     Step { state, next }

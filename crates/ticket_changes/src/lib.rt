@@ -1,4 +1,6 @@
 // The calls of a ticket that change the tree: each is made, and its answer's line written.
+#![tactic(auto)]
+
 ghost use Rattle.std.specs.Prelude.{◌≤◌, length};
 ghost use Rattle.model.specs.Layout.{world};
 ghost use Rattle.lines.specs.Reading.{output};

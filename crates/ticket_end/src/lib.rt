@@ -1,14 +1,18 @@
 // The input's end: a last line may lack its LF.
+#![tactic(auto)]
+
 ghost use Rattle.std.specs.Prelude.{◌≡◌, ◌≤◌, length, take};
 ghost use Rattle.ticket.specs.Room.{Room};
 ghost use Rattle.ticket.specs.Turns.{lent};
 ghost use Rattle.ticket_end.specs.End.{is_left, end_phase, Finished};
 
+use std::io::Write;
+use stream::Stream;
 use ticket::{Phase, Program};
 use ticket_turn::turn;
 
 // The phase, and how many bytes of a line that is not whole yet are kept.
-#[derive(Drop)]
+#[derive(Clone, Copy)]
 pub struct Progress {
     pub phase: Phase,
     pub kept: usize,
@@ -40,7 +44,7 @@ fn ended(phase: Phase) -> Phase
 }
 
 // The last line, which may lack its LF; a first line that is missing is unreadable.
-pub fn finish(
+pub fn finish<W: Write>(
     program: Program,
     progress: Progress,
     nodes: &mut [u32],
@@ -50,6 +54,7 @@ pub fn finish(
     line: &[u8],
     row: &mut [u32],
     out: &mut [u8],
+    output: &mut Stream<W>,
 ) -> Phase
     requires room { Room program (length row.old) (length out.old) }
     requires kept_in_bounds { progress.kept ≤ length line.now }
@@ -61,7 +66,9 @@ pub fn finish(
     let kept = progress.kept;
     if is_left(phase, kept) {
         let last = &line[..kept];
-        ended(turn(program, phase, nodes, dots, rects, marks, last, row, out))
+        ended(turn(
+            program, phase, nodes, dots, rects, marks, last, row, out, output,
+        ))
     } else {
         ended(phase)
     }

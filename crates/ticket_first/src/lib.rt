@@ -1,4 +1,6 @@
 // The first line: S, from which a fresh tree is made.
+#![tactic(auto)]
+
 ghost use Rattle.std.specs.Prelude.{◌≡◌, ◌≤◌, length};
 ghost use Rattle.model.specs.declared.State.{State};
 ghost use Rattle.model.specs.Layout.{world};

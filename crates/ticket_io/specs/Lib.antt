@@ -1,5 +1,3 @@
 -- What a program does with the bytes of a ticket.
 --     Reading      the bytes of a read, and of a whole input
---     Laws         the laws about them
 pub mod Reading
-pub mod Laws

@@ -1,4 +1,6 @@
-// Tickets from standard input to standard output, for trees of 1024 places and 512 groups. Each program tells its exit status.
+// Tickets from an input to an output, for trees of 1024 places and 512 groups. Each program tells its exit status, and why it failed.
+#![tactic(auto)]
+
 mod reads;
 mod run;
 
@@ -6,13 +8,24 @@ ghost use Rattle.std.specs.Prelude.{◌≤◌, length};
 ghost use Rattle.ticket.specs.Room.{Room};
 
 use crate::run::answer_ticket;
+use std::io::{Eprint, Read, Write};
+use stream::Stream;
 use ticket::Program;
 
 // A program's own rows: the answer's words and its bytes. The tree's, the line's and the buffer's are the same for all.
-fn run_program(program: Program, row: &mut [u32], out: &mut [u8]) -> u32
+fn run_program<R: Read + Drop, W: Write + Drop, E: Eprint>(
+    program: Program,
+    row: &mut [u32],
+    out: &mut [u8],
+    input: R,
+    output: W,
+    errors: &E,
+) -> u32
     requires { Room program (length row.old) (length out.old) }
     ensures { result ≤ 1 }
 {
+    let mut input = Stream::new(input);
+    let mut output = Stream::new(output);
     let mut nodes = [0u32; 5122];
     let mut dots = [0u32; 3072];
     let mut rects = [0i32; 4096];
@@ -29,24 +42,40 @@ fn run_program(program: Program, row: &mut [u32], out: &mut [u8]) -> u32
         row,
         out,
         &mut buffer,
+        &mut input,
+        &mut output,
+        errors,
     )
 }
 
-#[unsafe(no_mangle)]
-pub extern "C" fn krakvinge_dotcheck() -> u32
+pub fn krakvinge_dotcheck<R: Read + Drop, W: Write + Drop, E: Eprint>(
+    input: R,
+    output: W,
+    errors: &E,
+) -> u32
     ensures { result ≤ 1 }
 {
     let mut row = [0u32; 1024];
     let mut out = [0u8; 11304];
-    run_program(Program::Dotcheck, &mut row, &mut out)
+    run_program(Program::Dotcheck, &mut row, &mut out, input, output, errors)
 }
 
 // The row has a word for each of the 4096 windows of the largest grid.
-#[unsafe(no_mangle)]
-pub extern "C" fn krakvinge_gridreport() -> u32
+pub fn krakvinge_gridreport<R: Read + Drop, W: Write + Drop, E: Eprint>(
+    input: R,
+    output: W,
+    errors: &E,
+) -> u32
     ensures { result ≤ 1 }
 {
     let mut row = [0u32; 4096];
     let mut out = [0u8; 69656];
-    run_program(Program::Gridreport, &mut row, &mut out)
+    run_program(
+        Program::Gridreport,
+        &mut row,
+        &mut out,
+        input,
+        output,
+        errors,
+    )
 }

@@ -4,15 +4,15 @@ ghost use Rattle.ticket.specs.Room.{Room};
 ghost use Rattle.ticket.specs.Turns.{lent};
 ghost use Rattle.ticket_io.specs.Reading.{Chunked, ReadAnswered, ReadOn};
 
-use libc::STDIN_FILENO;
 use line_reader::{Found, next_line};
-use stream::{Got, read_some};
+use std::io::{Read, Write};
+use stream::{Got, Stream, read_some};
 use ticket::{Phase, Program};
 use ticket_end::{Progress, finish};
 use ticket_turn::turn;
 
 // The bytes of one read: its whole lines are answered. A line's byte beyond the row's room is not kept: such a line is too long.
-fn chunk(
+fn chunk<W: Write>(
     program: Program,
     progress: Progress,
     nodes: &mut [u32],
@@ -23,6 +23,7 @@ fn chunk(
     line: &mut [u8],
     row: &mut [u32],
     out: &mut [u8],
+    output: &mut Stream<W>,
 ) -> Progress
     requires room { Room program (length row.old) (length out.old) }
     requires kept_in_bounds { progress.kept ≤ length line.old }
@@ -37,7 +38,9 @@ fn chunk(
         match next_line(line, kept, bytes, at) {
             Found::Line(n, next) => {
                 let whole = &line[..n];
-                phase = turn(program, phase, nodes, dots, rects, marks, whole, row, out);
+                phase = turn(
+                    program, phase, nodes, dots, rects, marks, whole, row, out, output,
+                );
                 kept = 0;
                 at = next;
             }
@@ -50,7 +53,7 @@ fn chunk(
 }
 
 // What a read brought: the lines that end in its bytes are answered. A piece of a line before a read that failed is no line.
-fn answer_read(
+fn answer_read<W: Write>(
     program: Program,
     progress: Progress,
     got: Got,
@@ -62,22 +65,25 @@ fn answer_read(
     row: &mut [u32],
     out: &mut [u8],
     buffer: &[u8],
+    output: &mut Stream<W>,
 ) -> Progress
     requires room { Room program (length row.old) (length out.old) }
     requires kept_in_bounds { (progress.kept ≤ length line.old) × (got.count ≤ length buffer.now) }
-    ensures kept_in_bounds_2 { result.kept ≤ length line.new }
+    ensures kept_after { result.kept ≤ length line.new }
     ensures read_answered { ReadAnswered program progress got line.old
         (lent nodes.old dots.old rects.old marks.old row.old out.old) buffer.now result
         line.new (lent nodes.new dots.new rects.new marks.new row.new out.new) }
 {
     if got.ok {
         if got.count == 0 {
-            let phase = finish(program, progress, nodes, dots, rects, marks, line, row, out);
+            let phase = finish(
+                program, progress, nodes, dots, rects, marks, line, row, out, output,
+            );
             return Progress { phase, kept: 0 };
         }
         let bytes = &buffer[..got.count];
         return chunk(
-            program, progress, nodes, dots, rects, marks, bytes, line, row, out,
+            program, progress, nodes, dots, rects, marks, bytes, line, row, out, output,
         );
     }
     Progress {
@@ -87,7 +93,7 @@ fn answer_read(
 }
 
 // One read.
-pub fn read_on(
+pub fn read_on<R: Read, W: Write>(
     program: Program,
     progress: Progress,
     nodes: &mut [u32],
@@ -98,16 +104,18 @@ pub fn read_on(
     row: &mut [u32],
     out: &mut [u8],
     buffer: &mut [u8],
+    input: &mut Stream<R>,
+    output: &mut Stream<W>,
 ) -> Progress
     requires room { Room program (length row.old) (length out.old) }
     requires kept_in_bounds { progress.kept ≤ length line.old }
-    ensures kept_in_bounds_2 { result.kept ≤ length line.new }
+    ensures kept_after { result.kept ≤ length line.new }
     ensures read_on { ReadOn program progress line.old
         (lent nodes.old dots.old rects.old marks.old row.old out.old) buffer.new result
         line.new (lent nodes.new dots.new rects.new marks.new row.new out.new) }
 {
-    let got = read_some(STDIN_FILENO, buffer);
+    let got = read_some(input, buffer);
     answer_read(
-        program, progress, got, nodes, dots, rects, marks, line, row, out, buffer,
+        program, progress, got, nodes, dots, rects, marks, line, row, out, buffer, output,
     )
 }

@@ -5,8 +5,8 @@ ghost use Rattle.ticket.specs.Turns.{lent, is_over};
 ghost use Rattle.ticket_io.specs.Reading.{AllAnswered};
 
 use crate::reads::read_on;
-use libc::STDOUT_FILENO;
-use stream::write_bytes;
+use std::io::{Eprint, Error, Read, Write};
+use stream::{Stream, write_bytes};
 use ticket::{Phase, Program};
 use ticket_end::Progress;
 
@@ -24,7 +24,7 @@ fn is_over(phase: Phase) -> bool
 
 // Reads to the input's end, or until no line is answered any more.
 // Nothing says that the input ends, so the turns are counted down from a number that no run uses up.
-fn run(
+fn run<R: Read, W: Write>(
     program: Program,
     nodes: &mut [u32],
     dots: &mut [u32],
@@ -34,6 +34,8 @@ fn run(
     row: &mut [u32],
     out: &mut [u8],
     buffer: &mut [u8],
+    input: &mut Stream<R>,
+    output: &mut Stream<W>,
 ) -> Phase
     requires { Room program (length row.old) (length out.old) × (length line.old ≡ 81) }
     ensures { result ≡ Phase.Ended → AllAnswered program
@@ -47,7 +49,7 @@ fn run(
     let mut turns = u64::MAX;
     while turns > 0 {
         progress = read_on(
-            program, progress, nodes, dots, rects, marks, line, row, out, buffer,
+            program, progress, nodes, dots, rects, marks, line, row, out, buffer, input, output,
         );
         let phase = progress.phase;
         if is_over(phase) {
@@ -58,19 +60,24 @@ fn run(
     Phase::Failed
 }
 
-// Says on standard error which error it was.
-fn failed(program: Program) -> u32
+// Says on standard error which program failed, and by which error.
+fn failed<E: Eprint>(program: Program, failure: Option<Error>, errors: &E) -> u32
     ensures { result ≡ 1 }
 {
-    match program {
-        Program::Dotcheck => os::fail(b"dotcheck"),
-        Program::Gridreport => os::fail(b"gridreport"),
-    }
+    let name = match program {
+        Program::Dotcheck => "dotcheck",
+        Program::Gridreport => "gridreport",
+    };
+    // Where this cannot be written either, nothing is left to say it by.
+    let _ = match failure {
+        Some(error) => errors.eprintln(format_args!("{name}: {error}")),
+        None => errors.eprintln(name),
+    };
     1
 }
 
 // The header, then the answers. The status is 0, or 1 where a read or a write failed: then nothing more is read or answered.
-pub fn answer_ticket(
+pub fn answer_ticket<R: Read, W: Write, E: Eprint>(
     program: Program,
     nodes: &mut [u32],
     dots: &mut [u32],
@@ -80,6 +87,9 @@ pub fn answer_ticket(
     row: &mut [u32],
     out: &mut [u8],
     buffer: &mut [u8],
+    input: &mut Stream<R>,
+    output: &mut Stream<W>,
+    errors: &E,
 ) -> u32
     requires { Room program (length row.old) (length out.old) × (length line.old ≡ 81) }
     ensures upper_bound { result ≤ 1 }
@@ -87,13 +97,15 @@ pub fn answer_ticket(
         (lent nodes.old dots.old rects.old marks.old row.old out.old)
         (lent nodes.new dots.new rects.new marks.new row.new out.new) }
 {
-    if !write_bytes(STDOUT_FILENO, b"DOTS,1\n") {
-        return failed(program);
+    if !write_bytes(output, b"DOTS,1\n") {
+        return failed(program, output.failure, errors);
     }
-    let phase = run(program, nodes, dots, rects, marks, line, row, out, buffer);
+    let phase = run(
+        program, nodes, dots, rects, marks, line, row, out, buffer, input, output,
+    );
     if let Phase::Ended = phase {
         0
     } else {
-        failed(program)
+        failed(program, input.failure.or(output.failure), errors)
     }
 }

@@ -1,4 +1,6 @@
 // A line after the first: a call on the tree, or the grid that ends a ticket.
+#![tactic(auto)]
+
 ghost use Rattle.std.specs.Prelude.{◌+◌, ◌*◌, ◌≤◌, length};
 ghost use Rattle.model.specs.Layout.{world};
 ghost use Rattle.lines.specs.Reading.{output};

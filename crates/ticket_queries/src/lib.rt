@@ -1,4 +1,6 @@
 // The calls of a ticket that only read the tree: a query, and the report of a grid. Each is made, and its answer written.
+#![tactic(auto)]
+
 ghost use Rattle.std.specs.Prelude.{◌+◌, ◌*◌, ◌≤◌, length};
 ghost use Rattle.model.specs.Layout.{world};
 ghost use Rattle.lines.specs.Reading.{output};

@@ -7,7 +7,7 @@ use lib.IntN.{ℤ}
 use mir.Syntax.{w32, w64}
 use mir.Val.{SFits, to_z, of_z}
 use mir.Facts.{to_z-of_z}
-use Rattle.arithmetic.specs.Laws.Linear.{wide}
+use Rattle.arithmetic.proofs.Laws.Linear.{wide}
 
 abbrev pub ReadBack : ℤ → Type 0
 ReadBack z = to_z w32 (of_z w32 z) ≡ z

@@ -2,8 +2,6 @@
 --     Rows         the dots of a row
 --     Sums         the dots of a tile, summed
 --     Counts       the dots of a patch within bounds
---     Laws         the proofs
 pub mod Rows
 pub mod Sums
 pub mod Counts
-pub mod Laws

@@ -11,7 +11,7 @@ use geometry::settings::Settings;
 use model::patch::Patch;
 
 // Columns or rows of a patch from a number on and before another: none, if `to` is no larger.
-#[derive(Drop)]
+#[derive(Clone, Copy)]
 struct Span {
     from: u32,
     to: u32,

@@ -18,4 +18,3 @@ pub mod Stores
 pub mod Stored
 pub mod Splits
 pub mod Cleanup
-pub mod Laws

@@ -8,7 +8,6 @@ use Rattle.geometry.specs.declared.node_data.NodeData.{NodeData}
 use Rattle.geometry.specs.Cells.{child_data, route, root_data}
 use Rattle.geometry.specs.declared.settings.Settings.{Settings}
 use Rattle.geometry.specs.Settings.{in_range}
-use Rattle.geometry.specs.Laws.Ranges.{accepted}
 use Rattle.model.specs.Trees.{Tree, leaf, branch, child_node}
 use Rattle.model.specs.Layout.{branch_mark}
 use Rattle.model.specs.Memory.{first_at, count_at}

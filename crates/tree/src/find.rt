@@ -7,7 +7,7 @@ use geometry::settings::Settings;
 use memory::node::{Node, node_at};
 
 // A leaf: the number of its node, and what a walk knows there.
-#[derive(Drop)]
+#[derive(Clone, Copy)]
 pub struct Leaf {
     pub node: usize,
     pub node_data: NodeData,

@@ -1,4 +1,6 @@
 // All without the check: every dot's id, child 0 first at each branch, then the others. No rectangle is read.
+#![tactic(auto)]
+
 mod walk;
 
 ghost use Rattle.model.specs.Answers.{list_reply};

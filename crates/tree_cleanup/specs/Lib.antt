@@ -6,4 +6,3 @@
 pub mod Walks
 pub mod EmptyBranches
 pub mod Answers
-pub mod Laws

@@ -1,4 +1,6 @@
 // Cleanup, without the check: each branch whose five children are empty becomes an empty leaf, one level a call.
+#![tactic(auto)]
+
 ghost use Rattle.std.specs.Prelude.{◌≡◌, ◌+◌};
 ghost use Rattle.memory.specs.Rows.{HasNode};
 ghost use Rattle.tree.specs.Operations.{HasTree};
@@ -12,7 +14,7 @@ use model::State;
 use model::answers::YesNoAnswer;
 
 // The head of the free groups, and how many branches were turned.
-#[derive(Drop)]
+#[derive(Clone, Copy)]
 pub struct Swept {
     pub head: u32,
     pub turned: u32,

@@ -10,7 +10,7 @@ use grid::grid::Grid;
 use memory::places::rect_at;
 
 // What the places so far add up to: the windows met, and the zero rectangles left out.
-#[derive(Drop)]
+#[derive(Clone, Copy)]
 pub struct Pass {
     pub total: u64,
     pub zeros: u32,
@@ -18,7 +18,7 @@ pub struct Pass {
 
 // One place more: its rectangle is added, or is a zero one and is left out.
 fn add_place(grid: Grid, rect: AABB, pass: Pass, row: &mut [u32]) -> Pass
-    requires grid_value { (sizes_fit grid ≡ true) × (windows grid ≤ length row.old) × Room 0 (windows grid) 1 row.old }
+    requires windows_fit { (sizes_fit grid ≡ true) × (windows grid ≤ length row.old) × Room 0 (windows grid) 1 row.old }
     requires total_bound { (pass.total ≤ 4294967296) × (pass.zeros ≤ 65536) }
     ensures { Stepped grid rect row.old row.new pass result }
 {
@@ -38,7 +38,7 @@ fn add_place(grid: Grid, rect: AABB, pass: Pass, row: &mut [u32]) -> Pass
 
 // Adds the rectangles of the first places, but the zero ones, to counts that are 0.
 pub fn add_places(grid: Grid, rects: &[i32], places: usize, row: &mut [u32]) -> Pass
-    requires grid_value { (sizes_fit grid ≡ true) × (windows grid ≤ length row.old) × Empty (windows grid) row.old }
+    requires windows_fit { (sizes_fit grid ≡ true) × (windows grid ≤ length row.old) × Empty (windows grid) row.old }
     requires places_bound { (places ≤ 65536) × (4 * places ≤ length rects.now) }
     ensures { Passed grid rects.now places row.old row.new result }
 {

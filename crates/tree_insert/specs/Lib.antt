@@ -15,4 +15,3 @@ pub mod SplitDown
 pub mod Push
 pub mod InsertAt
 pub mod Landing
-pub mod Laws

@@ -15,7 +15,7 @@ use Rattle.model.specs.Insert.{insert_at, Grown}
 use Rattle.model.specs.declared.Dot.{Dot}
 use Rattle.model.specs.Shapes.{Shape, placed_in, grown_by}
 use Rattle.model.specs.Memory.{read}
-use Rattle.model.specs.Laws.Insert.{split_count}
+use Rattle.model.specs.Insert.{split_count}
 use Rattle.tree.specs.Paths.{sub, put, Reach}
 use Rattle.tree.specs.declared.find.Leaf.{Leaf}
 use Rattle.tree.specs.Stored.{Stored}

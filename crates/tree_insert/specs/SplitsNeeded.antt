@@ -11,11 +11,11 @@ use Rattle.geometry.specs.declared.node_data.NodeData.{NodeData}
 use Rattle.geometry.specs.Settings.{in_range}
 use Rattle.geometry.specs.Cells.{InRange}
 use Rattle.geometry.specs.Bounds.{in_bounds}
-use Rattle.geometry.specs.Laws.Geometry.{levels_left}
+use Rattle.geometry.specs.Levels.{levels_left}
 use Rattle.model.specs.Lists.{All}
 use Rattle.model.specs.Dots.{acceptable_dot}
 use Rattle.model.specs.Trees.{Placed, leaf}
-use Rattle.model.specs.Laws.Insert.{split_count}
+use Rattle.model.specs.Insert.{split_count}
 use Rattle.memory.specs.declared.node.Node.{Node}
 use Rattle.tree.specs.Chains.{ChainStands}
 use Rattle.tree_insert.specs.declared.needed.Needed.{Needed}

@@ -9,7 +9,7 @@ use model::{Dot, State};
 use tree::find::{Leaf, find_leaf};
 
 // A refusal; or the leaf that the dot routes to, and the splits on its way from there.
-#[derive(Drop)]
+#[derive(Clone, Copy)]
 pub enum Landing {
     Refused(u32),
     At(Leaf, u32),

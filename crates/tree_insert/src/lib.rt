@@ -1,4 +1,6 @@
 // Insert, and place by ticket, without the check: the dot goes to the leaf that it routes to, which splits where it is full and may.
+#![tactic(auto)]
+
 ghost use Rattle.std.specs.Prelude.{◌≡◌, List, ℕ, ◌+◌, length, replicate};
 ghost use Rattle.model.specs.Shapes.{Shape, inserted};
 ghost use Rattle.model.specs.Layout.{world, Holds};

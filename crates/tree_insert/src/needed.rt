@@ -45,7 +45,7 @@ pub fn count_within(dots: &[u32], rects: &[i32], chain: Node, bounds: Bounds) ->
 }
 
 // What an insert needs: so many splits, or too many for the free groups.
-#[derive(Drop)]
+#[derive(Clone, Copy)]
 pub enum Needed {
     Splits(u32),
     TooMany,
@@ -72,7 +72,7 @@ pub fn splits_needed(
     let mut bounds = Bounds::all();
     let mut count = chain.count;
     let mut splits: u32 = 0;
-    while must_split(settings, reached, count) {
+    'descent: while must_split(settings, reached, count) {
         if group == Node::NONE {
             return Needed::TooMany;
         }

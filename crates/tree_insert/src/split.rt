@@ -97,7 +97,7 @@ fn split_leaf(
 }
 
 // The leaf's node that the splits lead to, and the head of the free groups then.
-#[derive(Drop)]
+#[derive(Clone, Copy)]
 pub struct Reached {
     pub node: usize,
     pub group: u32,

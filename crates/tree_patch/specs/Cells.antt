@@ -9,7 +9,7 @@ use Rattle.geometry.specs.declared.settings.Settings.{Settings}
 use Rattle.geometry.specs.declared.node_data.NodeData.{NodeData}
 use Rattle.geometry.specs.Bounds.{bounds_below}
 use Rattle.geometry.specs.Cells.{child_data}
-use Rattle.geometry.specs.Laws.Geometry.{levels_left}
+use Rattle.geometry.specs.Levels.{levels_left}
 use Rattle.model.specs.Trees.{Tree, leaf, branch}
 use Rattle.model.specs.Shapes.{WellFormed}
 use Rattle.model.specs.Laying.{rects_of, overfull_cells}

@@ -3,9 +3,7 @@
 --     Counts       what the count of a patch's splits asks and tells
 --     Goes         whether a patch can be laid
 --     Laid         the dots laid so far
---     Laws         the proofs
 pub mod Cells
 pub mod Counts
 pub mod Goes
 pub mod Laid
-pub mod Laws

@@ -14,7 +14,7 @@ use tint::thresholds::next_dot;
 use tree_insert::insert_dot;
 
 // What has been laid: how many dots, and the state after them.
-#[derive(Drop)]
+#[derive(Clone, Copy)]
 pub struct Laid {
     pub state: State,
     pub number: u32,

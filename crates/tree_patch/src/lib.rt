@@ -1,4 +1,6 @@
 // Tint patches on the tree, without the check.
+#![tactic(auto)]
+
 ghost use Rattle.std.specs.Prelude.{◌≡◌, true};
 ghost use Rattle.model.specs.Patch.{patch_fits, patch_rule};
 ghost use Rattle.model.specs.Answers.{patch_state, patch_reply};

@@ -20,7 +20,7 @@ use tint::count::dots_within;
 use tree_insert::needed::count_within;
 
 // A cell that dots may fill: its node, or that of the leaf that it would lie below, and what a walk knows there.
-#[derive(Drop)]
+#[derive(Clone, Copy)]
 pub struct Cell {
     pub node: usize,
     pub node_data: NodeData,

@@ -3,9 +3,7 @@
 --     Walks        the query's walk of a chain, a node and a group
 --     Leaves       the walk over the leaves of a node and a group
 --     Answers      what the walk of the whole tree leaves, and what a call leaves
---     Laws         the proofs
 pub mod Rows
 pub mod Walks
 pub mod Leaves
 pub mod Answers
-pub mod Laws

@@ -1,4 +1,6 @@
 // The calls that only read the tree, without the check.
+#![tactic(auto)]
+
 pub mod leaves;
 pub mod query;
 mod walk;

@@ -64,7 +64,7 @@ fn walk_chain(
 }
 
 // A group that is walked: its first node, the levels from there on, the cell above it, and the quadrants of that cell that the query reaches.
-#[derive(Drop)]
+#[derive(Clone, Copy)]
 struct Group {
     first: usize,
     levels: u32,

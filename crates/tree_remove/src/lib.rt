@@ -1,4 +1,6 @@
 // Remove without the check: the first dot with an id in the leaf that a rectangle routes to goes, and its place is free.
+#![tactic(auto)]
+
 ghost use Rattle.std.specs.Prelude.{◌≡◌, List, ◌≤◌};
 ghost use Rattle.model.specs.Dots.{zero_dot};
 ghost use Rattle.model.specs.Layout.{none};
@@ -17,7 +19,7 @@ use model::{Dot, State};
 use tree::find::find_leaf;
 
 // Where a dot stands in its chain, and the place before it; no place is none.
-#[derive(Drop)]
+#[derive(Clone, Copy)]
 pub struct Hit {
     pub place: u32,
     pub previous: u32,

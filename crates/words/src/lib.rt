@@ -1,4 +1,6 @@
 // Numbers as words of 32 bits: a negative number has 4294967296 added, and a number of 64 bits is two words.
+#![tactic(auto)]
+
 ghost use Rattle.std.specs.Prelude.{◌≡◌, ◌<◌};
 ghost use Rattle.words.specs.Words.{signed, word_of, low_word, high_word, wide_of};
 

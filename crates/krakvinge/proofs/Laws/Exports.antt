@@ -1,0 +1,89 @@
+-- Laws of the exported calls.
+--     exported_other       rows of another length
+--     exported_changed, exported_read      THE PATTERN: a call that may change the state, and one that reads
+--     patch_bad, patch-good        refusal 13, and any other patch
+--     check_other, check_row, make_other, make-row     the same for the check and make
+use Rattle.std.specs.Prelude.{◌≡◌, refl, List, [], Bool, true, false, not, ℕ, ℤ, length}
+use Rattle.std.proofs.Common.{sym, ◌∙◌, subst}
+use Rattle.arithmetic.proofs.Laws.Tests.{true_false}
+use Rattle.geometry.specs.declared.settings.Settings.{Settings}
+use Rattle.model.specs.declared.State.{State}
+use Rattle.model.specs.declared.patch.Patch.{Patch}
+use Rattle.model.specs.Patch.{patch_fits, LayPatch}
+use Rattle.model.specs.declared.answers.MakeAnswer.{MakeAnswer}
+use Rattle.model.specs.Answers.{make_reply, make_state}
+use Rattle.model.specs.Layout.{World, world}
+use Rattle.model.specs.Calls.{Reply, Make}
+use Rattle.tree_check.specs.Checks.{Checked}
+use Rattle.host_rows.specs.Rows.{CountFits, settings_in, state_in, rows_fit}
+use Rattle.host_rows.specs.Answers.{result_of, state_row, number, Out, made_row}
+use Rattle.host_rows.proofs.Laws.Rows.{unfit, fit, kept_row}
+use Rattle.krakvinge.specs.Exports.{Lent, world_of, Exported, LaysPatch, Makes, Checks}
+
+module _ {B A : Type 0} {fits : Bool} {words : A → List ℕ} {says : World → List B → World → List B → Reply A → Type 0} where
+  pub exported_other : {l : Lent} {row : List B} {b : Bool} → b ≡ fits → not b ≡ true → Exported fits words says l row l row 1
+  exported_other test n = record { other_length = λ _. (refl, refl, refl); carried_out = λ e. true_false (sym e ∙ unfit test n) }
+
+  module _ {l l' : Lent} {row row' : List B} {result : ℕ} {s : State} {b : Bool} where
+    -- next: the state after the call, by the state before
+    pub exported_changed : (next : State → State) (reply : Reply A)
+        → b ≡ fits → not b ≡ false → s ≡ state_in l.state
+        → says (world_of s l) row (world_of (next s) l') row' reply
+        → l'.state ≡ state_row (next (state_in l.state)) l.state reply → Out words reply l.answer l'.answer result
+        → Exported fits words says l row l' row' result
+    exported_changed next reply test n e said state out =
+        record {
+          other_length = λ f. true_false (sym (fit test n) ∙ f);
+          carried_out = λ _.
+              (next (state_in l.state), reply, subst (λ (t : State). says (world_of t l) row (world_of (next t) l') row' reply) e said, state, out);
+        }
+
+    pub exported_read : (reply : Reply A)
+        → b ≡ fits → not b ≡ false → (s ≡ state_in l.state) × CountFits l.state 10
+        → says (world_of s l) row (world_of s l') row' reply
+        → l'.state ≡ l.state → Out words reply l.answer l'.answer result
+        → Exported fits words says l row l' row' result
+    exported_read reply test n read said state out =
+        exported_changed (λ t. t) reply test n read.0 said (state ∙ kept_row l.state read.1 reply) out
+
+-- ---- the patch
+
+module _ {p : Patch} {l : Lent} {b : Bool} (test : b ≡ patch_fits p) where
+  pub patch_bad : not b ≡ true → LaysPatch p l l 13
+  patch_bad n = record { bad_patch = λ _. (refl, refl); good_patch = λ e. true_false (sym e ∙ unfit test n) }
+
+  pub patch-good : not b ≡ false → {l' : Lent} {result : ℕ}
+      → Exported (rows_fit l.state l.answer) number (λ (w : World) (row : List ℕ) (w' : World) (row' : List ℕ)
+      (reply : Reply ℕ). LayPatch w p w' reply) l [] l' [] result
+      → LaysPatch p l l' result
+  patch-good n done = record { bad_patch = λ e. true_false (sym (fit test n) ∙ e); good_patch = λ _. done }
+
+-- ---- the check and make
+
+module _ (row nodes dots : List ℕ) (rects : List ℤ) (marks : List ℕ) where
+  pub check_other : (length row ≡ 12 → ⊥) → Checks row nodes dots rects marks marks 1
+  check_other ne = record { other_length = λ _. (refl, refl); carried_out = λ e. absurd (ne e) }
+
+  pub check_row : (s : State) (marks' : List ℕ) (result : ℕ) → length row ≡ 12 → s ≡ state_in row → Checked s nodes dots rects marks marks' result
+      → Checks row nodes dots rects marks marks' result
+  check_row s marks' result twelve e c =
+      record { other_length = λ ne. absurd (ne twelve); carried_out = λ _. subst (λ (t : State). Checked t nodes dots rects marks marks' result) e c }
+
+  pub make_other : (length row ≡ 12 → ⊥) → Makes row nodes dots rects marks row nodes dots rects marks 1
+  make_other ne = record { other_length = λ _. (refl, refl, refl, refl, refl, refl); carried_out = λ e. absurd (ne e) }
+
+  pub make-row : (s : Settings) (row' nodes' dots' : List ℕ) (rects' : List ℤ) (marks' : List ℕ) (result : ℕ) (m : MakeAnswer) → length row ≡ 12
+      → s ≡ settings_in row
+      → ((before : State) → Make (world before nodes dots rects marks) s (world (make_state before m) nodes' dots' rects' marks') (make_reply m))
+      → result ≡ result_of (make_reply m) → row' ≡ made_row m row → Makes row nodes dots rects marks row' nodes' dots' rects' marks' result
+  make-row s row' nodes' dots' rects' marks' result m twelve e made same written =
+      record {
+        other_length = λ ne. absurd (ne twelve);
+        carried_out = λ _. (
+          m,
+          (λ before. subst (λ (t : Settings). Make (world before nodes dots rects marks) t
+              (world (make_state before m) nodes' dots' rects' marks') (make_reply m)) e (made before)),
+          same,
+          written,
+        );
+      }

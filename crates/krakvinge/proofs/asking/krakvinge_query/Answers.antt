@@ -1,0 +1,21 @@
+-- The call's own contract, after a test of both rows.
+use Rattle.std.proofs.Common.{ap, not, refl, rules}
+use Rattle.host_rows.proofs.Laws.Rows.{twelve, two, told}
+use Rattle.krakvinge.proofs.Laws.Exports.{exported_other, exported_read}
+use Rattle.krakvinge.proofs.asking.krakvinge_query.Goals as goal
+
+pub returns : goal.returns
+returns c =
+    let f = c.ranges in
+    let said = rw (told f.x1 f.y1 f.x2 f.y2) at c.query-done.ensures in
+    exported_read _ c.rows_fit.ensures (ap not c.if-not-rows_fit.false)
+    c.state_in-before.ensures said refl c.query_out.ensures
+
+pub returns-then-not-rows_fit : goal.returns-then-not-rows_fit
+returns-then-not-rows_fit c = search (rules, exported_other)
+
+pub state_in-before-requires : goal.state_in-before-requires
+state_in-before-requires c = search (rules, twelve)
+
+pub query_out-requires : goal.query_out-requires
+query_out-requires c = search (rules, two)

@@ -1,0 +1,2 @@
+-- The laws about the definitions of specs/.
+pub mod Laws

@@ -1,0 +1,3 @@
+-- Laws of the thresholds.
+--     Quarters     quarter by quarter
+pub mod Quarters

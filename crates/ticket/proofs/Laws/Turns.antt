@@ -1,0 +1,158 @@
+-- A turn, by the cases of the code, and turns one after another.
+--     goes_on, goes_end    what comes of an answer that a program goes on or ends with
+--     turn_dotcheck, turn_gridreport       a later line, by the program
+--     turn-first, turn-later, turn-ended, turn-failed      a turn, by the phase
+--     turns-append, turns_more     lines and then others; a line more
+--     turns-over   at the end, and after an error, any lines change nothing
+--     never_first  no line leads back to the first
+--     turns-told   a line is told by its first 81 bytes: a longer one than 80 is unreadable either way (§13.2)
+use Rattle.std.specs.Prelude.{◌≡◌, refl, List, [], ◌∷◌, ◌++◌, map, ℕ, ◌≤◌, ℤ, length, take}
+use Rattle.std.proofs.Common.{ap, subst, arith}
+use Rattle.std.proofs.Math.Decide.{dec_lt}
+use Rattle.model.specs.declared.State.{State}
+use Rattle.model.specs.Layout.{World, world}
+use Rattle.model.proofs.Laws.Sums.{by_dec}
+use Rattle.line_reader.proofs.Laws.Cut.{short-kept, long_kept}
+use Rattle.lines.specs.Reading.{Output, output}
+use Rattle.lines.specs.Lines.{LineOf}
+use Rattle.lines.specs.Grids.{GridLineOf}
+use Rattle.lines.specs.declared.line.Line.{Line}
+use Rattle.lines.specs.declared.line.Line.TheVariants as line
+use Rattle.lines.specs.declared.grid_line.GridLine.{GridLine}
+use Rattle.lines.specs.declared.grid_line.GridLine.TheVariants as grid_line
+use Rattle.ticket.specs.declared.Start.{Start}
+use Rattle.ticket.specs.declared.Start.TheVariants as start
+use Rattle.ticket.specs.First.{end_of, after_start, Started}
+use Rattle.ticket.specs.Ticket.{Answered}
+use Rattle.ticket.specs.Report.{TurnAnswer, Turned}
+use Rattle.ticket.specs.declared.Program.{Program}
+use Rattle.ticket.specs.declared.Program.TheVariants as program
+use Rattle.ticket.specs.declared.Phase.{Phase}
+use Rattle.ticket.specs.declared.Phase.TheVariants as phase
+use Rattle.ticket.specs.Turns.{Lent, lent, phase_of, GoesTo, leads_on, breaks_off, LaterAnswer, Turn, Turns, over, turned}
+
+-- ---- one line
+
+pub goes_on : {r : Start} {s : State} {n : ℕ} {q : Phase} → r ≡ start.Going s n → GoesTo (phase.Going s) q → GoesTo (phase_of r) q
+goes_on e g = rw e g
+
+pub goes_end : {r : Start} {n : ℕ} {q : Phase} → r ≡ start.Ended n → GoesTo phase.Ended q → GoesTo (phase_of r) q
+goes_end e g = rw e g
+
+module _ {p : Program} {q : Phase} {nodes dots marks row out line nodes' dots' marks' out' : List ℕ} {rects rects' : List ℤ} where
+  pub turn_dotcheck : {s s' : State} {row' : List ℕ} {next : ℕ} → p ≡ program.Dotcheck
+      → Answered (world s nodes dots rects marks) row line (world s' nodes' dots' rects' marks') row' (output out out' next)
+      → GoesTo (phase.Going s') q
+      → Turn p (phase.Going s) (lent nodes dots rects marks row out) line q (lent nodes' dots' rects' marks' row' out')
+  turn_dotcheck {s' = s'} {next = next} e a g = record { taken = record { says = start.Going s' next; answer = rw e (refl, a); goes = g } }
+
+  pub turn_gridreport : {s : State} {r : Start} {row' : List ℕ} → p ≡ program.Gridreport
+      → Turned (world s nodes dots rects marks) row line r (world (after_start s r) nodes' dots' rects' marks') row' (output out out' (end_of r))
+      → GoesTo (phase_of r) q
+      → Turn p (phase.Going s) (lent nodes dots rects marks row out) line q (lent nodes' dots' rects' marks' row' out')
+  turn_gridreport {r = r} e a g = record { taken = record { says = r; answer = rw e a; goes = g } }
+
+  pub turn-first : {q₀ : Phase} {r : Start} → q₀ ≡ phase.First
+      → ((before : State) → Started (world before nodes dots rects marks) line r (world (after_start before r) nodes' dots' rects' marks')
+      (output out out' (end_of r)))
+      → GoesTo (phase_of r) q
+      → Turn p q₀ (lent nodes dots rects marks row out) line q (lent nodes' dots' rects' marks' row out')
+  turn-first {r = r} e a g = record { taken = rw e (record { says = r; answer = a; row = refl; goes = g }) }
+
+pub turn-later : {p : Program} {q₀ q : Phase} {s : State} {l l' : Lent} {line : List ℕ} → q₀ ≡ phase.Going s → Turn p (phase.Going s) l line q l'
+    → Turn p q₀ l line q l'
+turn-later e t = rw e t
+
+pub turn-ended : {p : Program} {q₀ : Phase} {l : Lent} {line : List ℕ} → q₀ ≡ phase.Ended → Turn p q₀ l line phase.Ended l
+turn-ended e = record { taken = rw e (refl, refl) }
+
+pub turn-failed : {p : Program} {q₀ : Phase} {l : Lent} {line : List ℕ} → q₀ ≡ phase.Failed → Turn p q₀ l line phase.Failed l
+turn-failed e = record { taken = rw e (refl, refl) }
+
+-- ---- lines one after another
+
+module _ {p : Program} where
+  pub turns-append : {q m q' : Phase} {l k l' : Lent} {xs ys : List (List ℕ)} → Turns p q l xs m k → Turns p m k ys q' l' → Turns p q l (xs ++ ys) q' l'
+  turns-append over u = u
+  turns-append (turned t ts) u = turned t (turns-append ts u)
+
+  pub turns_more : {q m q' : Phase} {l k l' : Lent} {xs : List (List ℕ)} {x : List ℕ} → Turns p q l xs m k → Turn p m k x q' l'
+      → Turns p q l (xs ++ (x ∷ [])) q' l'
+  turns_more ts t = turns-append ts (turned t over)
+
+  pub turns-over : (l : Lent) (xs : List (List ℕ)) → Turns p phase.Ended l xs phase.Ended l
+  turns-over l [] = over
+  turns-over l (x ∷ xs) = turned (stays x) (turns-over l xs)
+    where
+      stays : (x : List ℕ) → Turn p phase.Ended l x phase.Ended l
+      stays x = record { taken = (refl, refl) }
+
+-- ---- no line leads back to the first
+
+abbrev is_first : Phase → ℕ
+is_first phase.First = 1
+is_first (phase.Going s) = 0
+is_first phase.Ended = 0
+is_first phase.Failed = 0
+
+goes_later : (r : Start) {q : Phase} → GoesTo (phase_of r) q → is_first q ≡ 0
+goes_later (start.Going s n) leads_on = refl
+goes_later (start.Ended n) leads_on = refl
+goes_later r breaks_off = refl
+
+not_first : (q : Phase) {p : Program} {l : Lent} {x : List ℕ} {m : Phase} {k : Lent} → Turn p q l x m k → is_first m ≡ 0
+not_first phase.First t = goes_later t.taken.says t.taken.goes
+not_first (phase.Going s) t = goes_later t.taken.says t.taken.goes
+not_first phase.Ended t = ap is_first t.taken.0
+not_first phase.Failed t = ap is_first t.taken.0
+
+turns-later : {p : Program} {q m : Phase} {l k : Lent} {x : List ℕ} {xs : List (List ℕ)} → Turns p q l (x ∷ xs) m k → is_first m ≡ 0
+turns-later (turned {q = q} t over) = not_first q t
+turns-later (turned t (turned u us)) = turns-later (turned u us)
+
+pub never_first : {p : Program} {q : Phase} {l k : Lent} {x : List ℕ} {xs : List (List ℕ)} → Turns p q l (x ∷ xs) phase.First k → ⊥
+never_first ts = omega (arith, turns-later ts)
+
+-- ---- the first 81 bytes of a line
+
+few : (x : List ℕ) → length (take 81 x) ≤ 80 → take 81 x ≡ x
+few x h = by_dec (dec_lt 80 (length x)) (λ long. absurd (omega (arith, long_kept x long))) (λ short. short-kept x (omega arith))
+
+line-told : (x : List ℕ) (y : Line) → LineOf (take 81 x) y → LineOf x y
+line-told x (line.Call c) h = subst (λ (l : List ℕ). LineOf l (line.Call c)) (few x h.0) h
+line-told x line.Unreadable h = λ short. subst (λ (l : List ℕ). LineOf l line.Unreadable) (short-kept x short) h short
+
+grid_told : (x : List ℕ) (y : GridLine) → GridLineOf (take 81 x) y → GridLineOf x y
+grid_told x (grid_line.Grid g) h = subst (λ (l : List ℕ). GridLineOf l (grid_line.Grid g)) (few x h.0) h
+grid_told x grid_line.Other h = λ short. subst (λ (l : List ℕ). GridLineOf l grid_line.Other) (short-kept x short) h short
+
+answered-told : (x : List ℕ) {w w' : World} {row row' : List ℕ} {out : Output} → Answered w row (take 81 x) w' row' out → Answered w row x w' row' out
+answered-told x a = record { says = a.says; is = line-told x a.says a.is; answer = a.answer }
+
+started-told : (x : List ℕ) {w w' : World} {r : Start} {out : Output} → Started w (take 81 x) r w' out → Started w x r w' out
+started-told x a = record { says = a.says; is = line-told x a.says a.is; answer = a.answer }
+
+module _ (x : List ℕ) (w : World) (row : List ℕ) (r : Start) (w' : World) (row' : List ℕ) (out : Output) where
+  turn-told : (y : GridLine) → TurnAnswer w row (take 81 x) y r w' row' out → TurnAnswer w row x y r w' row' out
+  turn-told (grid_line.Grid g) a = a
+  turn-told grid_line.Other a = (a.0, answered-told x a.1)
+
+  turned-told : Turned w row (take 81 x) r w' row' out → Turned w row x r w' row' out
+  turned-told t = record { says = t.says; is = grid_told x t.says t.is; answer = turn-told t.says t.answer }
+
+later-told : (x : List ℕ) (p : Program) (s : State) (l : Lent) (r : Start) (l' : Lent) → LaterAnswer p s l (take 81 x) r l' → LaterAnswer p s l x r l'
+later-told x program.Dotcheck s l r l' a = (a.0, answered-told x a.1)
+later-told x program.Gridreport s l r l' a = turned-told x _ _ _ _ _ _ a
+
+line-turn : (x : List ℕ) (q : Phase) {p : Program} {l : Lent} {m : Phase} {k : Lent} → Turn p q l (take 81 x) m k → Turn p q l x m k
+line-turn x phase.First t =
+    let u = t.taken in
+    record { taken = record { says = u.says; answer = λ before. started-told x (u.answer before); row = u.row; goes = u.goes } }
+line-turn x (phase.Going s) {p} {l} {k = k} t =
+    let u = t.taken in record { taken = record { says = u.says; answer = later-told x p s l u.says k u.answer; goes = u.goes } }
+line-turn x phase.Ended t = record { taken = t.taken }
+line-turn x phase.Failed t = record { taken = t.taken }
+
+pub turns-told : {p : Program} {q q' : Phase} {l l' : Lent} (xs : List (List ℕ)) → Turns p q l (map (take 81) xs) q' l' → Turns p q l xs q' l'
+turns-told [] over = over
+turns-told (x ∷ xs) (turned {q = q} t ts) = turned (line-turn x q t) (turns-told xs ts)

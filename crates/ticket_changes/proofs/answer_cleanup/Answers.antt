@@ -1,0 +1,13 @@
+-- Cleanup's answer, by its cases, and the line written for it.
+use Rattle.std.proofs.Common.{rules}
+use Rattle.ticket.proofs.Laws.Replies.{cleanup-refused, cleaned, not-cleaned}
+use Rattle.ticket_changes.proofs.answer_cleanup.Goals as goal
+
+pub returns-in-Refused : goal.returns-in-Refused
+returns-in-Refused c = search (rules, cleanup-refused)
+
+pub returns-in-Yes : goal.returns-in-Yes
+returns-in-Yes c = search (rules, cleaned)
+
+pub returns-in-No : goal.returns-in-No
+returns-in-No c = search (rules, not-cleaned)

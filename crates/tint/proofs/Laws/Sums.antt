@@ -1,0 +1,111 @@
+-- Laws of the dots of a tile, summed.
+--     RowSum, row-start, row_fits, row_more, row_end       the loop over the columns of a row
+--     count-few    at most as many dots as corners
+--     sum_top, sum-next, sum_fits  a word by the word of the row above
+--     Filling, fill_start, fill_more, fill_end     the loop over the words
+use Rattle.std.specs.Prelude.{◌≡◌, refl, Bool, true, false, List, ltb, length, set}
+use Rattle.std.proofs.Math.Path.{ap, ap₂}
+use Rattle.std.proofs.Common.{sym, ◌∙◌, add-one, mul-le-mul, length-set, get_or-set_same, get_or-set_other}
+use Rattle.std.proofs.Math.Bool.{cond}
+use Prim.Native.Nat.{ℕ, suc, ◌+◌, ◌*◌, ◌-◌, ◌/◌, ◌%◌, ◌≤◌, ◌<◌}
+use Rattle.std.proofs.Math.Decide.{ℕ_discrete}
+use native.Mathlib.Omega.{arith}
+use Rattle.std.proofs.Math.ListN.{get_or}
+use Rattle.std.specs.Int.{w32}
+use mir.Val.{Fits, bool_byte}
+use Rattle.model.specs.Shapes.{below}
+use Rattle.model.specs.Thresholds.{threshold_at, count_before}
+use Rattle.model.proofs.Laws.Sums.{by_dec, sum_below-le, sum_below-one, sum_below-mul}
+use Rattle.model.proofs.Laws.Shapes.{below-le}
+use Rattle.tint.specs.Sums.{row_dots, sum_at, SumsBefore, TileSums}
+
+-- ---- a row
+
+row-few : (tint row width : ℕ) → row_dots tint row width ≤ width
+row-few tint row width =
+    omega (arith, sum_below-one width, sum_below-le width (λ i. below (threshold_at i row) tint) (λ i. 1) (λ i b. below-le (threshold_at i row) tint))
+
+-- the dots in the first columns, of so many
+pub record RowSum (tint row width count i : ℕ) : Type 0 where
+  pub within : i ≤ width
+  pub counted : count ≡ row_dots tint row i
+
+pub row-start : (tint row width : ℕ) → RowSum tint row width 0 0
+row-start tint row width = record { within = omega arith; counted = refl }
+
+as_one : (t : Bool) → bool_byte t ≡ cond t 1 0
+as_one true = refl
+as_one false = refl
+
+module _ {tint row width count i : ℕ} {dot : Bool} (s : RowSum tint row width count i) (h : i < width) (e : dot ≡ ltb (threshold_at i row) tint) where
+  pub row_more : RowSum tint row width (count + bool_byte dot) (i + 1)
+  unfolding below
+  row_more =
+      let one : bool_byte dot ≡ below (threshold_at i row) tint = as_one dot ∙ ap (λ (t : Bool). cond t 1 0) e in
+      record { within = omega arith; counted = rw (add-one i) (ap₂ ◌+◌ s.counted one) }
+
+  pub row_fits : Fits w32 width → Fits w32 (count + bool_byte dot)
+  row_fits f = let more = row_more in record { fits = omega (arith, more.counted, more.within, row-few tint row (i + 1)) }
+
+pub row_end : {tint row width count i : ℕ} → RowSum tint row width count i → width ≤ i → count ≡ row_dots tint row width
+row_end {tint} {row} {width} {count} {i} s h =
+    let all : i ≡ width = omega (arith, s.within) in
+    s.counted ∙ ap (row_dots tint row) all
+
+-- ---- a word
+
+pub count-few : (tint column row : ℕ) → count_before tint column row ≤ row * column
+unfolding count_before
+count-few tint column row =
+    let each = sum_below-le row (λ j. row_dots tint j column) (λ j. column * 1) (λ j b. omega (arith, row-few tint j column)) in
+    omega (arith, each, sum_below-mul row column (λ j. 1), ap (λ (n : ℕ). column * n) (sum_below-one row))
+
+-- above the first row
+pub sum_top : (tint place : ℕ) → place < 17 → 0 ≡ sum_at tint place
+unfolding count_before
+sum_top tint place h =
+    let row : place / 17 ≡ 0 = omega arith in
+    sym (ap (count_before tint (place % 17)) row)
+
+-- the word of the row above, and the dots of that row
+module _ {tint place dots : ℕ} {words : List ℕ} (few : place < 289) (before : SumsBefore tint place words) (some : 17 ≤ place)
+    (counted : dots ≡ row_dots tint (place / 17 - 1) (place % 17)) where
+  pub sum-next : get_or words (place - 17) 0 + dots ≡ sum_at tint place
+  unfolding count_before
+  sum-next =
+      let row = place / 17 - 1 in
+      let column = place % 17 in
+      let here : (place - 17) % 17 ≡ column = omega arith in
+      let above : (place - 17) / 17 ≡ row = omega arith in
+      let next : suc row ≡ place / 17 = omega arith in
+      let word : get_or words (place - 17) 0 ≡ count_before tint column row = before.each (place - 17) (omega arith) ∙ ap₂ (count_before tint) here above in
+      ap₂ ◌+◌ word counted ∙ ap (count_before tint column) next
+
+  pub sum_fits : Fits w32 (get_or words (place - 17) 0 + dots)
+  sum_fits =
+      let most = mul-le-mul {n₁ = place / 17} {m₁ = place % 17} {n₂ = 17} {m₂ = 17} (omega arith) (omega arith) in
+      record { fits = omega (arith, sum-next, count-few tint (place % 17) (place / 17), most) }
+
+-- ---- the table
+
+pub record Filling (tint : ℕ) (words : List ℕ) (i : ℕ) : Type 0 where
+  pub within : i ≤ 289
+  pub before : SumsBefore tint i words
+
+pub fill_start : (tint : ℕ) (words : List ℕ) → length words ≡ 289 → Filling tint words 0
+fill_start tint words e = record { within = omega arith; before = record { whole = e; each = λ i b. absurd (omega arith) } }
+
+pub fill_more : {tint i word : ℕ} {words : List ℕ} → Filling tint words i → i < 289 → word ≡ sum_at tint i → Filling tint (set words i word) (i + 1)
+fill_more {tint} {i} {word} {words} s h e = record {
+  within = omega arith;
+  before = record {
+    whole = length-set words i word ∙ s.before.whole;
+    each = λ j b.
+        by_dec (ℕ_discrete j i)
+        (λ here. rw here (get_or-set_same words i word 0 (omega (arith, s.before.whole)) ∙ e))
+        (λ other. get_or-set_other words i j word 0 other ∙ s.before.each j (omega arith));
+  };
+}
+
+pub fill_end : {tint i : ℕ} {words : List ℕ} → Filling tint words i → 289 ≤ i → TileSums tint words
+fill_end {tint} {i} {words} s h = record { whole = s.before.whole; each = λ j b. s.before.each j (omega (arith, s.within)) }

@@ -1,0 +1,93 @@
+-- Laws of marks.
+--     mark-one, mark-bits, marked-length       one mark more
+--     place-added, group-added     the same, as what is added
+--     once-rest, once-whole, added-whole   what is counted, in two parts of which the first has been marked
+--     marks-ready      the marks are as a walk needs them after one more
+--     zero-at          marks that are 0
+--     one_missing, none_missing        whether every mark is 1
+use Rattle.std.specs.Prelude.{◌≡◌, refl, List, true, false, ℕ, zero, suc, ◌+◌, ◌≤◌, ◌<◌, length, get_or, set, replicate}
+use Rattle.std.proofs.Common.{ap, sym, ◌∙◌, arith, length-set, get_or-set_same, get_or-set_other}
+use Rattle.std.proofs.Math.Decide.{ℕ_discrete}
+use Rattle.model.specs.Sums.{indicator}
+use Rattle.model.proofs.Laws.Sums.{indicator-same, indicator_other, by_dec}
+use Rattle.tree_check.specs.Marks.{place_mark, group_mark, Once, Added, MarksReady, AllMarked}
+
+pub zero-at : (n j : ℕ) → get_or (replicate {A = ℕ} n 0) j 0 ≡ 0
+zero-at zero j = refl
+zero-at (suc n) zero = refl
+zero-at (suc n) (suc j) = zero-at n j
+
+pub marked-length : (marks marks' : List ℕ) (k : ℕ) → length marks' ≡ length (set marks k 1) → length marks' ≡ length marks
+marked-length marks marks' k e = e ∙ length-set marks k 1
+
+module _ (marks : List ℕ) (k : ℕ) (room : k < length marks) (unmarked : get_or marks k 0 ≡ 0) where
+  pub mark-one : (j : ℕ) → get_or (set marks k 1) j 0 ≡ get_or marks j 0 + indicator j k
+  mark-one j =
+      by_dec (ℕ_discrete j k)
+      (λ e.
+      let new : get_or (set marks k 1) j 0 ≡ get_or (set marks k 1) k 0 = ap (λ (y : ℕ). get_or (set marks k 1) y 0) e in
+      let old : get_or marks j 0 ≡ get_or marks k 0 = ap (λ (y : ℕ). get_or marks y 0) e in
+      let one : indicator j k ≡ 1 = ap (λ (y : ℕ). indicator y k) e ∙ indicator-same k in
+      omega (arith, get_or-set_same marks k 1 0 room))
+      (λ ne. omega (arith, get_or-set_other marks k j 1 0 ne, indicator_other j k ne))
+
+  pub mark-bits : ((j : ℕ) → get_or marks j 0 ≤ 1) → (j : ℕ) → get_or (set marks k 1) j 0 ≤ 1
+  mark-bits bits j =
+      by_dec (ℕ_discrete j k)
+      (λ e. omega (arith, ap (λ (y : ℕ). get_or (set marks k 1) y 0) e, get_or-set_same marks k 1 0 room))
+      (λ ne. omega (arith, get_or-set_other marks k j 1 0 ne, bits j))
+
+  pub place-added : (limit : ℕ) → Added (place_mark marks) (place_mark (set marks k 1)) limit (λ j. indicator j k)
+  place-added limit = record { added = λ j b. mark-one j }
+
+module _ (marks : List ℕ) (places groups k : ℕ) (ready : MarksReady marks places groups) (room : k < groups) (unmarked : group_mark places marks k ≡ 0) where
+  in_marks : places + k < length marks
+  in_marks = omega (arith, ready.room)
+
+  pub group-added : Added (group_mark places marks) (group_mark places (set marks (places + k) 1)) groups (λ j. indicator j k)
+  group-added =
+      let shift : (j : ℕ) → indicator (places + j) (places + k) ≡ indicator j k = λ j.
+      by_dec (ℕ_discrete j k)
+      (λ e.
+      let one : indicator j k ≡ 1 = ap (λ (y : ℕ). indicator y k) e ∙ indicator-same k in
+      ap (λ (y : ℕ). indicator (places + y) (places + k)) e ∙ indicator-same (places + k) ∙ sym one)
+      (λ ne. omega (arith, indicator_other j k ne, indicator_other (places + j) (places + k) (λ e. ne (omega arith)))) in
+      record { added = λ j b. omega (arith, mark-one marks (places + k) in_marks unmarked (places + j), shift j) }
+
+  pub marks-ready : MarksReady (set marks (places + k) 1) places groups
+  marks-ready =
+      record { room = length-set marks (places + k) 1 ∙ ready.room; bits = mark-bits marks (places + k) in_marks unmarked ready.bits }
+
+  pub places-kept : (j : ℕ) → j < places → get_or (set marks (places + k) 1) j 0 ≡ get_or marks j 0
+  places-kept j b = get_or-set_other marks (places + k) j 1 0 (λ e. omega arith)
+
+-- what is counted is `part` and `rest`, and `part` has been marked
+module _ {mark mark' part : ℕ → ℕ} {limit : ℕ} (marked : Added mark mark' limit part) (rest whole : ℕ → ℕ) (sum : (j : ℕ) → whole j ≡ part j + rest j) where
+  pub once-rest : Once mark limit whole → Once mark' limit rest
+  once-rest o = record { once = λ j b. omega (arith, o.once j b, marked.added j b, sum j); within = λ j b. omega (arith, o.within j b, sum j) }
+
+  pub once-whole : Once mark limit part → Once mark' limit rest → Once mark limit whole
+  once-whole p o =
+      record { once = λ j b. omega (arith, o.once j b, marked.added j b, sum j); within = λ j b. omega (arith, p.within j b, o.within j b, sum j) }
+
+  pub added-whole : {mark'' : ℕ → ℕ} → Added mark' mark'' limit rest → Added mark mark'' limit whole
+  added-whole a = record { added = λ j b. omega (arith, a.added j b, marked.added j b, sum j) }
+
+-- one number below the limit, unmarked
+pub once-one : (mark : ℕ → ℕ) (limit k : ℕ) → ((j : ℕ) → mark j ≤ 1) → k < limit → mark k ≡ 0 → Once mark limit (λ j. indicator j k)
+once-one mark limit k bits b z =
+    record {
+      once = λ j c. by_dec (ℕ_discrete j k)
+          (λ e. omega (arith, ap mark e, ap (λ (y : ℕ). indicator y k) e, indicator-same k)) (λ ne. omega (arith, indicator_other j k ne, bits j));
+      within = λ j c. indicator_other j k (λ e. omega arith);
+    }
+
+-- ---- every mark is 1
+
+pub one_missing : (marks : List ℕ) (i : ℕ) → i < length marks → (get_or marks i 0 ≡ 1 → ⊥) → AllMarked marks false
+unfolding AllMarked
+one_missing marks i b ne = (i, b, ne)
+
+pub none_missing : (marks : List ℕ) (i : ℕ) → length marks ≤ i → ((k : ℕ) → k < i → get_or marks k 0 ≡ 1) → AllMarked marks true
+unfolding AllMarked
+none_missing marks i b all = λ j c. all j (omega arith)

@@ -1,0 +1,139 @@
+-- All places of a memory, with the zero rectangles set apart.
+--     besides-zero         a weight over all rectangles, by those that are not zero and the number of those that are
+--     step-zero, step-add  one place
+--     Passing, pass-start, place-asks, pass-room, pass-more, pass_end  the loop over the places
+use Rattle.std.specs.Prelude.{◌≡◌, refl, List, Bool, true, false, cond, ℕ, zero, suc, ◌+◌, ◌*◌, ◌≤◌, ◌<◌, ℤ, length}
+use Rattle.std.proofs.Common.{ap, subst, sym, ◌∙◌, add-mul, add-one, arith}
+use Rattle.arithmetic.proofs.Laws.Tests.{by_bool}
+use Rattle.geometry.specs.declared.aabb.AABB.{AABB}
+use Rattle.geometry.specs.Rectangles.{same_rect, zero_rect}
+use Rattle.grid.specs.declared.grid.Grid.{Grid}
+use Rattle.grid.specs.Grids.{windows, sizes_fit}
+use Rattle.model.specs.Sums.{sum_below}
+use Rattle.model.specs.Memory.{rect_at}
+use Rattle.model.proofs.Laws.Sums.{sum_below-le, sum_below-mul, sum_below-one}
+use Rattle.model.proofs.Laws.Dots.{same_rect_true}
+use Rattle.tree_grid.specs.declared.places.Pass.{Pass}
+use Rattle.tree_grid.specs.Counts.{Added, Room, Empty, weight_of, met_by, besides, zero_is, Stepped, Passed}
+use Rattle.tree_grid.proofs.Laws.Rects.{weight_le, met-few}
+use Rattle.tree_grid.proofs.Laws.Counts.{added_none, added-same, added_then}
+
+-- of the first n rectangles f
+pub besides-zero : (h : AABB → ℕ) (f : ℕ → AABB) (n : ℕ)
+    → sum_below n (λ p. h (f p)) ≡ sum_below n (λ p. besides h (f p)) + sum_below n (λ p. zero_is (f p)) * h zero_rect
+besides-zero h f zero = omega arith
+besides-zero h f (suc n) =
+    let zeros = sum_below n (λ p. zero_is (f p)) in
+    let rest = besides-zero h f n in
+    by_bool (same_rect (f n) zero_rect)
+    (λ e. rw e (omega (arith, rest, ap h (same_rect_true (f n) zero_rect e), add-mul zeros 1 (h zero_rect))))
+    (λ e. rw e (omega (arith, rest, add-mul zeros 0 (h zero_rect))))
+
+sum_below-next : (n : ℕ) (f : ℕ → ℕ) → sum_below (n + 1) f ≡ sum_below n f + f n
+sum_below-next n f = rw add-one refl
+
+-- ---- one place
+
+module _ (g : Grid) (r : AABB) (row : List ℕ) {b : Bool} (told : b ≡ same_rect r zero_rect) where
+  pub step-zero : b ≡ true → (pass : Pass) → Stepped g r row row pass (record { total = pass.total; zeros = pass.zeros + 1 })
+  step-zero e pass =
+      let is : same_rect r zero_rect ≡ true = sym told ∙ e in
+      let none : (k : AABB → ℕ) → besides k r ≡ 0 = λ k. rw is refl in
+      let one : zero_is r ≡ 1 = rw is refl in
+      record {
+        counts = added_none row (λ i. none (λ q. weight_of g q 1 i));
+        totals = omega (arith, none (met_by g));
+        left_out = omega (arith, one);
+      }
+
+  pub step-add : b ≡ false → (pass : Pass) (row' : List ℕ) (met : ℕ) → Added row (weight_of g r 1) row' × (met ≡ 1 * met_by g r)
+      → Stepped g r row row' pass (record { total = pass.total + met; zeros = pass.zeros })
+  step-add e pass row' met did =
+      let is : same_rect r zero_rect ≡ false = sym told ∙ e in
+      let own : (k : AABB → ℕ) → besides k r ≡ k r = λ k. rw is refl in
+      let none : zero_is r ≡ 0 = rw is refl in
+      record {
+        counts = added-same (λ i. besides (λ q. weight_of g q 1 i) r) (λ i l. sym (own (λ q. weight_of g q 1 i))) did.0;
+        totals = omega (arith, did.1, own (met_by g));
+        left_out = omega (arith, none);
+      }
+
+-- ---- the places so far
+
+pub record Passing (g : Grid) (rects : List ℤ) (places : ℕ) (row₀ row : List ℕ) (pass : Pass) (i : ℕ) : Type 0 where
+  pub within : i ≤ places
+  pub passed : Passed g rects i row₀ row pass
+
+pub pass-start : (g : Grid) (rects : List ℤ) (places : ℕ) (row : List ℕ) → Passing g rects places row row (record { total = 0; zeros = 0 }) 0
+pass-start g rects places row = record {
+  within = omega arith;
+  passed = record { counts = added_none row (λ i. refl); totals = refl; left_out = refl };
+}
+
+module _ {g : Grid} {rects : List ℤ} {places : ℕ} {row₀ row : List ℕ} {pass : Pass} {i : ℕ} (s : Passing g rects places row₀ row pass i) where
+  -- how large the numbers are
+  pub zeros-le : pass.zeros ≤ i
+  zeros-le =
+      omega (
+        arith,
+        s.passed.left_out,
+        sum_below-le i (λ p. zero_is (rect_at rects p)) (λ p. 1) (λ p b. cond-le (same_rect (rect_at rects p) zero_rect)),
+        sum_below-one i,
+      )
+    where
+      cond-le : (b : Bool) → cond b 1 0 ≤ 1
+      cond-le true = omega arith
+      cond-le false = omega arith
+
+  pub totals-le : sizes_fit g ≡ true → pass.total ≤ 4096 * i
+  totals-le fits =
+      omega (
+        arith,
+        s.passed.totals,
+        sum_below-le i (λ p. besides (met_by g) (rect_at rects p)) (λ p. 4096 * 1) (λ p b. each (rect_at rects p)),
+        sum_below-mul i 4096 (λ p. 1),
+        sum_below-one i,
+      )
+    where
+      each : (r : AABB) → besides (met_by g) r ≤ 4096 * 1
+      each r = by_bool (same_rect r zero_rect) (λ e. rw e (omega arith)) (λ e. rw e (omega (arith, met-few g fits r)))
+
+  -- each word is at most the number of places so far
+  pub pass-room : windows g ≤ length row₀ → Empty (windows g) row₀ → (weight : ℕ) → weight + i ≤ 4294967295 → Room 0 (windows g) weight row
+  pass-room fits empty weight few j l h =
+      omega (
+        arith,
+        s.passed.counts.each j (omega arith),
+        empty j h,
+        sum_below-le i (λ p. besides (λ r. weight_of g r 1 j) (rect_at rects p)) (λ p. 1) (λ p b. weight_le g j (rect_at rects p)),
+        sum_below-one i,
+      )
+
+  -- what a place asks
+  pub place-asks : (sizes_fit g ≡ true) × (windows g ≤ length row₀) × Empty (windows g) row₀ → (places ≤ 65536) × (4 * places ≤ length rects)
+      → ((sizes_fit g ≡ true) × (windows g ≤ length row) × Room 0 (windows g) 1 row) × ((pass.total ≤ 4294967296) × (pass.zeros ≤ 65536))
+  place-asks fits few = (
+    (
+      fits.0,
+      omega (arith, s.passed.counts.same_length, fits.1),
+      pass-room fits.1 fits.2 1 (omega (arith, s.within, few.0)),
+    ),
+    (omega (arith, totals-le fits.0, s.within, few.0), omega (arith, zeros-le, s.within, few.0)),
+  )
+
+  pub pass-more : {r : AABB} {row' : List ℕ} {pass' : Pass} → i < places → r ≡ rect_at rects i → Stepped g r row row' pass pass'
+      → Passing g rects places row₀ row' pass' (i + 1)
+  pass-more {r} {row'} {pass'} h is step =
+      let here : Stepped g (rect_at rects i) row row' pass pass' = subst (λ (q : AABB). Stepped g q row row' pass pass') is step in
+      record {
+        within = omega arith;
+        passed = record {
+          counts = added_then (λ j. sum_below (i + 1) (λ p. besides (λ q. weight_of g q 1 j) (rect_at rects p)))
+              (λ j l. sym (sum_below-next i (λ p. besides (λ q. weight_of g q 1 j) (rect_at rects p)))) s.passed.counts here.counts;
+          totals = omega (arith, s.passed.totals, here.totals, sum_below-next i (λ p. besides (met_by g) (rect_at rects p)));
+          left_out = omega (arith, s.passed.left_out, here.left_out, sum_below-next i (λ p. zero_is (rect_at rects p)));
+        };
+      }
+
+  pub pass_end : places ≤ i → Passed g rects places row₀ row pass
+  pass_end h = subst (λ (n : ℕ). Passed g rects n row₀ row pass) (omega (arith, s.within)) s.passed

@@ -1,0 +1,25 @@
+-- The insert is not refused, and one dot more is laid.
+use Rattle.std.proofs.Common.{arith}
+use Rattle.tree_patch.proofs.Laws.Lay.{next_fits, next-number, lay_refused, lay_laid}
+use Rattle.tree_patch.proofs.lay.lay_dot.Goals as goal
+
+pub dot_at-dot-requires : goal.dot_at-dot-requires
+dot_at-dot-requires c = next_fits c.requires.1 c.requires.0.progress
+
+pub insert_dot-requires : goal.insert_dot-requires
+insert_dot-requires c =
+    let some = c.requires.0 in
+    record { marks = some.marks; shape = _; holds = some.progress.holds }
+
+pub overflow_add-result : goal.overflow_add-result
+overflow_add-result c = omega (arith, next-number c.requires.1 c.requires.0.progress)
+
+pub returns-in-Refused : goal.returns-in-Refused
+returns-in-Refused c =
+    let inserted = c.insert_dot.ensures in
+    record { on = λ marks x g. absurd (lay_refused c.requires.1 c.dot_at-dot.ensures _ inserted c.in-Refused.is g) }
+
+pub returns-in-Splits : goal.returns-in-Splits
+returns-in-Splits c =
+    let inserted = c.insert_dot.ensures in
+    record { on = λ marks x g. lay_laid c.requires.1 c.dot_at-dot.ensures _ inserted c.in-Splits.is c.followed_by.ensures g }
