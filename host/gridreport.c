@@ -1,4 +1,4 @@
-/* gridreport with an exit status: 0, or 1 where a read or a write failed. The program is crates/ticket_io: link libticket_io.a. */
+/* gridreport as a C program: its status is 0, or 1 where a read or a write failed. The function is crates/ticket_io_c's: link libticket_io.a. */
 #include <stdint.h>
 
 uint32_t krakvinge_gridreport(void);

@@ -1,4 +1,4 @@
-/* Krakvinge for a C host: the proved calls on lent rows. Link target/staticlib/libkrakvinge.a (rt staticlib krakvinge).
+/* Krakvinge for a C host: the proved calls on lent rows. Link target/staticlib/libkrakvinge.a (host/build_library krakvinge).
  *
  * Each row is a pointer and its length in words. The lengths, for G groups (0 to 16384) and N places (0 to 65536):
  *     state    12 words: the root's left, top, width and height; the two limits (depth, leaf) and the smallest cell; free group, free place, live;

@@ -1,4 +1,4 @@
-//! Krakvinge for a Rust host: a tree that owns its rows, over the proved calls. Link target/staticlib/libkrakvinge.a (rt staticlib krakvinge).
+//! Krakvinge for a Rust host: a tree that owns its rows, over the proved calls. Link target/staticlib/libkrakvinge.a (host/build_library krakvinge).
 //! host/krakvinge.h says what each row holds and what each refusal means.
 
 pub type Rect = [i32; 4];

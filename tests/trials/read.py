@@ -13,7 +13,7 @@ NUMBER = re.compile(r'[0-9]+')
 NAME = re.compile(r'[^\W\d_][\w?-]*|«\w+»|\[\]')
 MARKS = ('use', 'abbrev', 'pub', 'unfolding')
 RECTANGLE = ('x1', 'y1', 'x2', 'y2')
-SETTINGS = ('left', 'top', 'width', 'height', '«depth_limit»', '«leaf_limit»', '«smallest_cell»')
+SETTINGS = ('left', 'top', 'width', 'height', 'depth_limit', 'leaf_limit', 'smallest_cell')
 
 
 def fail(message):
@@ -56,7 +56,7 @@ class Source:
     def declare(self, item):
         if item[-3:] == [':', 'List', 'Trial']:
             self.tables.append(item[-4])
-        elif item[-5:-3] == [':', 'passAll']:
+        elif item[-5:-3] == [':', 'pass_all']:
             self.proved.append(item[-3])
         elif 'data' in item:
             body = item[item.index('where') + 1:]
@@ -139,10 +139,10 @@ class Evaluator:
         'false': (0, lambda: False),
         'pos': (1, lambda n: n),
         'negsuc': (1, lambda n: -1 - n),
-        'refusedWord': (1, Refused),
+        'refused_word': (1, Refused),
         'none': (0, lambda: 4294967295),
-        'allInks': (0, lambda: 65535),
-        'largestCount': (0, lambda: 2 ** 64 - 1),
+        'all_inks': (0, lambda: 65535),
+        'largest_count': (0, lambda: 2 ** 64 - 1),
     }
 
     def __init__(self, source):
@@ -234,7 +234,7 @@ def answered(word):
 
 
 def line(room, kind, *rest):
-    if kind == 'insertInk':
+    if kind == 'insert_ink':
         number, rectangle, ink, word = rest
         return [question('insert', [number, *corners(rectangle), ink], answered(word))]
     if kind == 'remove':
@@ -245,10 +245,10 @@ def line(room, kind, *rest):
     if kind == 'all':
         ids, = rest
         return [question(kind, [room], [0, len(ids), 0, *ids])]
-    if kind == 'collectIds':
+    if kind == 'collect_ids':
         ids, opened = rest
         return [question('collect_ids', [room], [0, len(ids), opened, *ids])]
-    if kind == 'queryInks':
+    if kind == 'query_inks':
         rectangle, inks, ids, opened = rest
         return [question('query', [*corners(rectangle), inks, room], [0, len(ids), opened, *ids])]
     if kind == 'references':
@@ -259,9 +259,9 @@ def line(room, kind, *rest):
     if kind == 'words':
         nodes, dots = rest
         return [question('nodes', [], nodes), question('dots', [], dots)]
-    if kind == 'freeGroups':
+    if kind == 'free_groups':
         return [question('freegroups', [], *rest)]
-    if kind in ('ask', 'placeBy', 'changes', 'recounted'):
+    if kind in ('ask', 'place_by', 'changes', 'recounted'):
         return counted(kind, *rest)
     fail(f'{kind} is no known line')
 
@@ -273,7 +273,7 @@ def counted(kind, *rest):
         dot = [number, *corners(rectangle), 0]
         ticket = [] if isinstance(word, Refused) else [each % 2 ** 32 for each in dot] + halves(count)
         return [question('ask', dot, answered(word) + ticket)]
-    if kind == 'placeBy':
+    if kind == 'place_by':
         number, rectangle, count, word = rest
         return [question('place', [number, *corners(rectangle), 0, *halves(count)], answered(word))]
     count, = rest
