@@ -39,7 +39,8 @@ pub fn read_some<R: Read>(input: &mut Stream<R>, buffer: &mut [u8]) -> Got
         (take result.count buffer.new) }
     ensures end { result.ok ≡ true → result.count ≡ 0 → 0 < length buffer.new → IsAtEnd (R.remaining input.new.inner) }
     ensures unread { result.ok ≡ false → Keeps (R.remaining input.old.inner) (R.remaining input.new.inner) }
-    ensures told { result.ok ≡ false → IsSome input.new.failure }
+    ensures told { result.ok ≡ false → (result.count ≡ 0) × IsSome input.new.failure }
+    ensures kept { result.ok ≡ true → input.new.failure ≡ input.old.failure }
 {
     let mut turns = u64::MAX;
     while turns > 0 {
@@ -68,6 +69,7 @@ pub fn read_some<R: Read>(input: &mut Stream<R>, buffer: &mut [u8]) -> Got
 pub fn write_bytes<W: Write>(output: &mut Stream<W>, bytes: &[u8]) -> bool
     ensures bytes { result ≡ true → Appends (W.contents output.old.inner) (W.contents output.new.inner) bytes.now }
     ensures told { result ≡ false → IsSome output.new.failure }
+    ensures kept { result ≡ true → output.new.failure ≡ output.old.failure }
 {
     let mut done = 0;
     let mut turns = u64::MAX;

@@ -26,11 +26,12 @@ pub loop-turns-preserved : goal.loop-turns-preserved
 loop-turns-preserved g c =
     let bytes = c.args.bytes.now in
     let done = c.loop-turns.done in
-    let (fits, so_far) = c.loop-turns.invariant in
+    let (fits, so_far, kept) = c.loop-turns.invariant in
     elim c.match-write.branch [
       | in-Ok w ↦ rw w.done-is (
         within bytes done w.in-Ok.put fits w.in-Ok.ensures.bound,
         written bytes done w.in-Ok.put _ _ _ so_far w.in-Ok.ensures.bytes,
+        kept,
       )
-      | in-Err+else-ne w ↦ rw w.done-is (fits, Appends-kept _ _ _ _ so_far w.in-Err.ensures.bytes)
+      | in-Err+else-ne w ↦ rw w.done-is (fits, Appends-kept _ _ _ _ so_far w.in-Err.ensures.bytes, kept)
     ]
