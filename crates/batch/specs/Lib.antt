@@ -1,5 +1,3 @@
 -- What a batch answers (§10).
---     Answers      its refusal as a whole, how many records it carries out, and what stands where a row has no record
---     Runs         what holds between two records
+--     Answers      its refusal as a whole, how many records it carries out
 pub mod Answers
-pub mod Runs

@@ -1,19 +1,22 @@
 -- What the steps of a batch leave.
 --     reply_word            the answer word of a reply
 --     RecordCarriedOut     what a record leaves, for every marks and shape that the words hold
+--     no_record            stands where a row has no record
 --     Stepped              the same with the answer row
 --     Begun                the check of all that a batch is lent
 use Rattle.std.specs.Prelude.{◌≡◌, List, ℕ, ℤ, set}
 use Rattle.model.specs.declared.Dot.{Dot}
 use Rattle.model.specs.declared.Record.{Record}
+use Rattle.model.specs.declared.Kind.{Kind}
+use Rattle.model.specs.declared.Kind.TheVariants as kind
 use Rattle.model.specs.declared.State.{State}
+use Rattle.model.specs.Dots.{zero_dot}
 use Rattle.model.specs.Shapes.{Shape}
 use Rattle.model.specs.Layout.{world, Holds}
 use Rattle.model.specs.Calls.{Reply, refused, too_many, answered, Recorded, refused_word, carry_out}
 use Rattle.tree_check.specs.Checks.{Checked}
-use Rattle.batch_step.specs.declared.Batched.{Batched}
 
-abbrev pub record_of : ℕ → Dot → Record
+abbrev pub record_of : Kind → Dot → Record
 record_of kind dot = record { kind = kind; dot = dot }
 
 -- §10.4: the answer word of a reply
@@ -28,18 +31,17 @@ RecordCarriedOut rule s nodes dots rects s' nodes' dots' rects' word =
     (marks : List ℕ) (x : Shape) → Holds (world s nodes dots rects marks) x
     → Holds (world s' nodes' dots' rects' marks) (rule x).shape × (word ≡ (rule x).word)
 
+-- stands where a row has no record
+abbrev pub no_record : Record
+no_record = record { kind = kind.Insert; dot = zero_dot }
+
 -- §10.3, §10.5: a record's word in its place of the row, and the state that the next record gets
-pub record Stepped (r : Record) (i : ℕ) (b : Batched) (answers nodes dots : List ℕ) (rects : List ℤ) (b' : Batched) (answers' nodes' dots' : List ℕ)
+pub record Stepped (r : Record) (i : ℕ) (s : State) (answers nodes dots : List ℕ) (rects : List ℤ) (s' : State) (answers' nodes' dots' : List ℕ)
     (rects' : List ℤ) : Type 0 where
-  pub refusal : b'.refusal ≡ b.refusal
-  pub count : b'.count ≡ b.count
-  pub words : (marks : List ℕ) (x : Shape) → Holds (world b.state nodes dots rects marks) x
-      → Holds (world b'.state nodes' dots' rects' marks) (carry_out r x).shape × (answers' ≡ set answers i (carry_out r x).word)
+  pub words : (marks : List ℕ) (x : Shape) → Holds (world s nodes dots rects marks) x
+      → Holds (world s' nodes' dots' rects' marks) (carry_out r x).shape × (answers' ≡ set answers i (carry_out r x).word)
 
 -- §10.3, §11.6: rows of unequal length are 1; then the check
-pub record Begun (records words : ℕ) (s : State) (nodes dots : List ℕ) (rects : List ℤ) (marks : List ℕ) (b : Batched) (marks' : List ℕ) : Type 0 where
-  pub kept : b.state ≡ s
-  pub unequal : (records ≡ words → ⊥) → (b.refusal ≡ 1) × (marks' ≡ marks)
-  pub checked : records ≡ words → Checked s nodes dots rects marks marks' b.refusal
-  pub refused : (b.refusal ≡ 0 → ⊥) → b.count ≡ 0
-  pub accepted : b.refusal ≡ 0 → b.count ≡ records
+pub record Begun (records words : ℕ) (s : State) (nodes dots : List ℕ) (rects : List ℤ) (marks marks' : List ℕ) (refusal : ℕ) : Type 0 where
+  pub unequal : (records ≡ words → ⊥) → (refusal ≡ 1) × (marks' ≡ marks)
+  pub checked : records ≡ words → Checked s nodes dots rects marks marks' refusal

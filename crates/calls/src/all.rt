@@ -1,10 +1,10 @@
 // All: every dot's id, in the row that the caller lends.
 ghost use Rattle.model.specs.Layout.{world};
 ghost use Rattle.model.specs.Calls.{All};
-ghost use Rattle.model.specs.Answers.{list_reply};
+ghost use Rattle.model.specs.Answers.{number_reply};
 
 use model::State;
-use model::answers::ListAnswer;
+use model::refusal::Refusal;
 use tree_all::all_row;
 use tree_check::check::check;
 
@@ -15,13 +15,10 @@ pub fn all(
     rects: &[i32],
     marks: &mut [u8],
     row: &mut [u32],
-) -> ListAnswer
+) -> Result<u32, Refusal>
     ensures { All (world state nodes.now dots.now rects.now marks.old) row.old
-        (world state nodes.now dots.now rects.now marks.new) row.new (list_reply result) }
+        (world state nodes.now dots.now rects.now marks.new) row.new (number_reply result) }
 {
-    let refusal = check(state, nodes, dots, rects, marks);
-    if refusal != 0 {
-        return ListAnswer::Refused(refusal);
-    }
+    check(state, nodes, dots, rects, marks)?;
     all_row(state, nodes, dots, row)
 }

@@ -3,7 +3,8 @@ ghost use Rattle.model.specs.Layout.{world};
 ghost use Rattle.model.specs.Tickets.{Ask};
 ghost use Rattle.model.specs.Answers.{ask_reply};
 
-use model::answers::AskAnswer;
+use model::answers::Asked;
+use model::refusal::Refusal;
 use model::{Dot, State};
 use tree_check::check::check;
 use tree_insert::ask::ask_dot;
@@ -15,13 +16,10 @@ pub fn ask(
     rects: &[i32],
     marks: &mut [u8],
     dot: Dot,
-) -> AskAnswer
+) -> Result<Asked, Refusal>
     ensures { Ask (world state nodes.now dots.now rects.now marks.old) dot
         (world state nodes.now dots.now rects.now marks.new) (ask_reply result) }
 {
-    let refusal = check(state, nodes, dots, rects, marks);
-    if refusal != 0 {
-        return AskAnswer::Refused(refusal);
-    }
+    check(state, nodes, dots, rects, marks)?;
     ask_dot(state, nodes, dots, rects, dot)
 }

@@ -4,7 +4,7 @@ ghost use Rattle.model.specs.Calls.{Cleanup};
 ghost use Rattle.model.specs.Answers.{yes_no_reply, yes_no_state};
 
 use model::State;
-use model::answers::YesNoAnswer;
+use model::refusal::Refusal;
 use tree_check::check::check;
 use tree_cleanup::cleanup_tree;
 
@@ -14,13 +14,10 @@ pub fn cleanup(
     dots: &[u32],
     rects: &[i32],
     marks: &mut [u8],
-) -> YesNoAnswer
+) -> Result<Option<State>, Refusal>
     ensures { Cleanup (world state nodes.old dots.now rects.now marks.old)
         (world (yes_no_state state result) nodes.new dots.now rects.now marks.new) (yes_no_reply result) }
 {
-    let refusal = check(state, nodes, dots, rects, marks);
-    if refusal != 0 {
-        return YesNoAnswer::Refused(refusal);
-    }
+    check(state, nodes, dots, rects, marks)?;
     cleanup_tree(state, nodes)
 }

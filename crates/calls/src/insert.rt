@@ -1,9 +1,10 @@
 // Insert: a dot goes to the leaf that it routes to.
 ghost use Rattle.model.specs.Layout.{world};
 ghost use Rattle.model.specs.Calls.{Insert};
-ghost use Rattle.model.specs.Answers.{insert_reply, insert_state};
+ghost use Rattle.model.specs.Answers.{change_reply, change_state};
 
-use model::answers::InsertAnswer;
+use model::answers::Changed;
+use model::refusal::Refusal;
 use model::{Dot, State};
 use tree_check::check::check;
 use tree_insert::insert_dot;
@@ -15,13 +16,10 @@ pub fn insert(
     rects: &mut [i32],
     marks: &mut [u8],
     dot: Dot,
-) -> InsertAnswer
+) -> Result<Changed, Refusal>
     ensures { Insert (world state nodes.old dots.old rects.old marks.old) dot
-        (world (insert_state state result) nodes.new dots.new rects.new marks.new) (insert_reply result) }
+        (world (change_state state result) nodes.new dots.new rects.new marks.new) (change_reply result) }
 {
-    let refusal = check(state, nodes, dots, rects, marks);
-    if refusal != 0 {
-        return InsertAnswer::Refused(refusal);
-    }
+    check(state, nodes, dots, rects, marks)?;
     insert_dot(state, nodes, dots, rects, dot)
 }

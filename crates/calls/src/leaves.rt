@@ -1,10 +1,10 @@
 // Leaves: six numbers a leaf, in the row that the caller lends.
 ghost use Rattle.model.specs.Layout.{world};
 ghost use Rattle.model.specs.Calls.{Leaves};
-ghost use Rattle.model.specs.Answers.{list_reply};
+ghost use Rattle.model.specs.Answers.{number_reply};
 
 use model::State;
-use model::answers::ListAnswer;
+use model::refusal::Refusal;
 use tree_check::check::check;
 use tree_query::leaves::leaves_row;
 
@@ -15,13 +15,10 @@ pub fn leaves(
     rects: &[i32],
     marks: &mut [u8],
     row: &mut [i32],
-) -> ListAnswer
+) -> Result<u32, Refusal>
     ensures { Leaves (world state nodes.now dots.now rects.now marks.old) row.old
-        (world state nodes.now dots.now rects.now marks.new) row.new (list_reply result) }
+        (world state nodes.now dots.now rects.now marks.new) row.new (number_reply result) }
 {
-    let refusal = check(state, nodes, dots, rects, marks);
-    if refusal != 0 {
-        return ListAnswer::Refused(refusal);
-    }
+    check(state, nodes, dots, rects, marks)?;
     leaves_row(state, nodes, row)
 }

@@ -7,7 +7,8 @@ ghost use Rattle.model.specs.Answers.{make_reply, make_state};
 use geometry::settings::Settings;
 use memory::fresh::make_fresh;
 use memory::lengths::lengths_fit;
-use model::answers::MakeAnswer;
+use model::State;
+use model::refusal::Refusal;
 
 // Refusals 1 and 2 write nothing.
 pub fn make(
@@ -16,15 +17,15 @@ pub fn make(
     dots: &mut [u32],
     rects: &mut [i32],
     marks: &mut [u8],
-) -> MakeAnswer
+) -> Result<State, Refusal>
     ensures { (before : State) → Make (world before nodes.old dots.old rects.old marks.old)
         settings (world (make_state before result) nodes.new dots.new rects.new marks.new) (make_reply result) }
 {
     if !lengths_fit(nodes.len(), dots.len(), rects.len(), marks.len()) {
-        return MakeAnswer::Refused(1);
+        return Err(Refusal::BadLengths);
     }
     if !settings.in_range() {
-        return MakeAnswer::Refused(2);
+        return Err(Refusal::BadSettings);
     }
-    MakeAnswer::Made(make_fresh(settings, nodes, dots, rects, marks))
+    Ok(make_fresh(settings, nodes, dots, rects, marks))
 }

@@ -1,11 +1,12 @@
 // Tint patch: its dots are laid whole, each as an insert, or none of them.
 ghost use Rattle.model.specs.Layout.{world};
 ghost use Rattle.model.specs.Patch.{LayPatch};
-ghost use Rattle.model.specs.Answers.{patch_reply, patch_state};
+ghost use Rattle.model.specs.Answers.{change_reply, change_state};
 
 use model::State;
-use model::answers::PatchAnswer;
+use model::answers::Changed;
 use model::patch::Patch;
+use model::refusal::Refusal;
 use tree_check::check::check;
 use tree_patch::lay_patch;
 
@@ -17,16 +18,13 @@ pub fn patch(
     rects: &mut [i32],
     marks: &mut [u8],
     patch: Patch,
-) -> PatchAnswer
+) -> Result<Changed, Refusal>
     ensures { LayPatch (world state nodes.old dots.old rects.old marks.old) patch
-        (world (patch_state state result) nodes.new dots.new rects.new marks.new) (patch_reply result) }
+        (world (change_state state result) nodes.new dots.new rects.new marks.new) (change_reply result) }
 {
     if !patch.in_range() {
-        return PatchAnswer::Refused(13);
+        return Err(Refusal::BadPatch);
     }
-    let refusal = check(state, nodes, dots, rects, marks);
-    if refusal != 0 {
-        return PatchAnswer::Refused(refusal);
-    }
+    check(state, nodes, dots, rects, marks)?;
     lay_patch(state, nodes, dots, rects, patch)
 }

@@ -3,7 +3,8 @@ ghost use Rattle.model.specs.Layout.{world};
 ghost use Rattle.model.specs.Calls.{Query, CollectIds};
 ghost use Rattle.model.specs.Answers.{query_reply};
 
-use model::answers::QueryAnswer;
+use model::answers::Found;
+use model::refusal::Refusal;
 use model::{State, Window};
 use tree_check::check::check;
 use tree_query::query::query_row;
@@ -16,14 +17,11 @@ pub fn query(
     marks: &mut [u8],
     window: Window,
     row: &mut [u32],
-) -> QueryAnswer
+) -> Result<Found, Refusal>
     ensures { Query (world state nodes.now dots.now rects.now marks.old) window row.old
         (world state nodes.now dots.now rects.now marks.new) row.new (query_reply result) }
 {
-    let refusal = check(state, nodes, dots, rects, marks);
-    if refusal != 0 {
-        return QueryAnswer::Refused(refusal);
-    }
+    check(state, nodes, dots, rects, marks)?;
     query_row(state, nodes, dots, rects, window, row)
 }
 
@@ -35,14 +33,11 @@ pub fn collect_ids(
     rects: &[i32],
     marks: &mut [u8],
     row: &mut [u32],
-) -> QueryAnswer
+) -> Result<Found, Refusal>
     ensures { CollectIds (world state nodes.now dots.now rects.now marks.old) row.old
         (world state nodes.now dots.now rects.now marks.new) row.new (query_reply result) }
 {
-    let refusal = check(state, nodes, dots, rects, marks);
-    if refusal != 0 {
-        return QueryAnswer::Refused(refusal);
-    }
+    check(state, nodes, dots, rects, marks)?;
     let settings = state.settings;
     let window = Window::all_inks(settings.root_rect());
     query_row(state, nodes, dots, rects, window, row)

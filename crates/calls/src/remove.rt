@@ -5,7 +5,7 @@ ghost use Rattle.model.specs.Answers.{yes_no_reply, yes_no_state};
 
 use geometry::aabb::AABB;
 use model::State;
-use model::answers::YesNoAnswer;
+use model::refusal::Refusal;
 use tree_check::check::check;
 use tree_remove::remove_dot;
 
@@ -17,13 +17,10 @@ pub fn remove(
     marks: &mut [u8],
     id: u32,
     rect: AABB,
-) -> YesNoAnswer
+) -> Result<Option<State>, Refusal>
     ensures { Remove (world state nodes.old dots.old rects.old marks.old) id rect
         (world (yes_no_state state result) nodes.new dots.new rects.new marks.new) (yes_no_reply result) }
 {
-    let refusal = check(state, nodes, dots, rects, marks);
-    if refusal != 0 {
-        return YesNoAnswer::Refused(refusal);
-    }
+    check(state, nodes, dots, rects, marks)?;
     remove_dot(state, nodes, dots, rects, id, rect)
 }

@@ -1,11 +1,11 @@
 // The window grid report: the counts in the row that the caller lends, and the total.
 ghost use Rattle.model.specs.Layout.{world};
 ghost use Rattle.model.specs.Calls.{GridReport};
-ghost use Rattle.model.specs.Answers.{grid_reply};
+ghost use Rattle.model.specs.Answers.{number_reply};
 
 use grid::grid::Grid;
 use model::State;
-use model::answers::GridAnswer;
+use model::refusal::Refusal;
 use tree_check::check::check;
 use tree_grid::report::report_row;
 
@@ -17,13 +17,10 @@ pub fn grid_report(
     marks: &mut [u8],
     grid: Grid,
     row: &mut [u32],
-) -> GridAnswer
+) -> Result<u64, Refusal>
     ensures { GridReport (world state nodes.now dots.now rects.now marks.old) grid row.old
-        (world state nodes.now dots.now rects.now marks.new) row.new (grid_reply result) }
+        (world state nodes.now dots.now rects.now marks.new) row.new (number_reply result) }
 {
-    let refusal = check(state, nodes, dots, rects, marks);
-    if refusal != 0 {
-        return GridAnswer::Refused(refusal);
-    }
+    check(state, nodes, dots, rects, marks)?;
     report_row(state, rects, grid, row)
 }

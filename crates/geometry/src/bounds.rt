@@ -7,7 +7,7 @@ use crate::aabb::AABB;
 use crate::centered_aabb::CenteredAABB;
 
 // Above x_over and at most x_upto; above y_over and at most y_upto.
-#[derive(Clone, Copy)]
+#[derive(Clone, Copy, Debug, PartialEq, Eq)]
 pub struct Bounds {
     pub x_over: i32,
     pub x_upto: i32,
@@ -15,30 +15,22 @@ pub struct Bounds {
     pub y_upto: i32,
 }
 
-// The bound below, raised to the centre for the upper half.
-fn over(upper: bool, bound: i32, center: i32) -> i32
-    ensures { result ≡ cond upper (max_z bound center) bound }
+// The two bounds of an axis for one half of it: the upper half lies above the centre, the lower one at most at it.
+#[tactic(auto, using(crate::proofs::Fields::forms))]
+fn half_bounds(upper: bool, over: i32, upto: i32, center: i32) -> (i32, i32)
+    ensures over { result.0 ≡ cond upper (max_z over center) over }
+    ensures upto { result.1 ≡ cond upper upto (min_z upto center) }
 {
     if upper {
-        arithmetic::larger(bound, center)
+        (over.max(center), upto)
     } else {
-        bound
-    }
-}
-
-// The bound above, lowered to the centre for the lower half.
-fn upto(upper: bool, bound: i32, center: i32) -> i32
-    ensures { result ≡ cond upper bound (min_z bound center) }
-{
-    if upper {
-        bound
-    } else {
-        arithmetic::smaller(bound, center)
+        (over, upto.min(center))
     }
 }
 
 impl Bounds {
     // Those of the root: every rectangle in the range of coordinates.
+    #[tactic(auto, unfolding(crate::specs::Bounds::all_bounds))]
     pub fn all() -> Bounds
         ensures { result ≡ all_bounds }
     {
@@ -59,10 +51,8 @@ impl Bounds {
         }
         let right = (child == 2) | (child == 4);
         let bottom = 3 <= child;
-        let x_over = over(right, self.x_over, cell.center_x);
-        let x_upto = upto(right, self.x_upto, cell.center_x);
-        let y_over = over(bottom, self.y_over, cell.center_y);
-        let y_upto = upto(bottom, self.y_upto, cell.center_y);
+        let (x_over, x_upto) = half_bounds(right, self.x_over, self.x_upto, cell.center_x);
+        let (y_over, y_upto) = half_bounds(bottom, self.y_over, self.y_upto, cell.center_y);
         Bounds {
             x_over,
             x_upto,
@@ -72,6 +62,7 @@ impl Bounds {
     }
 
     // Whether a rectangle lies within the bounds.
+    #[tactic(auto, unfolding(crate::specs::Bounds::in_bounds))]
     pub fn holds(self, rect: AABB) -> bool
         ensures { result ≡ in_bounds self rect }
     {

@@ -1,14 +1,14 @@
--- A walk along a row's first 255 children: where it stands after i of them, and what a whole walk reaches.
+-- A walk along a row's children: where it stands after i of them, and what a whole walk reaches.
 --     walk_start, walk_step, walk_end      at the start, one child on, and at the end
 --     root-accepted, root_walks, reached_in, reached-out      from the root of accepted settings, and of others
 use mathlib.Core.Path.{◌≡◌, refl, sym, ap, ◌∙◌, subst}
 use mathlib.Core.Bool.{Bool, true, false}
 use mathlib.Core.List.{List, [], ◌∷◌}
-use Prim.Native.Nat.{ℕ, ◌+◌, ◌≤◌, ◌<◌, min}
+use Prim.Native.Nat.{ℕ, ◌+◌, ◌≤◌, ◌<◌}
 use native.Mathlib.Numerals.{add-one}
 use native.Mathlib.Omega.{arith}
-use lib.ListN.{length, get_or, take, drop, length-take, drop_of_length-le}
-use lib.Seq.{drop-cons, get_or-take}
+use lib.ListN.{length, get_or, take, drop, drop_of_length-le}
+use lib.Seq.{drop-cons}
 use Rattle.geometry.specs.declared.node_data.NodeData.{NodeData}
 use Rattle.geometry.specs.declared.settings.Settings.{Settings}
 use Rattle.geometry.specs.Settings.{in_range}
@@ -19,7 +19,7 @@ use Rattle.geometry_export.specs.Nodes.{zero_data, reached}
 pub record Walked (start : NodeData) (path : List ℕ) (node : NodeData) (i : ℕ) : Type 0 where
   pub range : InRange node.cell
   pub depth : node.depth ≤ i
-  pub along : data_along start (take 255 path) ≡ data_along node (drop i (take 255 path))
+  pub along : data_along start path ≡ data_along node (drop i path)
 
 pub walk_start : (start : NodeData) (path : List ℕ) → InRange start.cell → start.depth ≡ 0 → Walked start path start 0
 walk_start start path r d = record { range = r; depth = omega arith; along = refl }
@@ -37,24 +37,18 @@ unfolding data_along
 one n l i h = rw (add-one, drop-cons l i 0 h)
 
 module _ (start : NodeData) (path : List ℕ) (node : NodeData) (i : ℕ) (w : Walked start path node i) where
-  pub walk_step : (next : NodeData) (end : ℕ) → next ≡ child_data node (get_or path i 0) → end ≡ min 255 (length path) → i < end
-      → Walked start path next (i + 1)
-  walk_step next end e m h =
+  pub walk_step : i < length path → Walked start path (child_data node (get_or path i 0)) (i + 1)
+  walk_step h =
       let k = get_or path i 0 in
-      let inside : i < length (take 255 path) = omega (arith, length-take 255 path) in
-      let same : get_or (take 255 path) i 0 ≡ k = get_or-take 255 path i 0 (omega arith) in
-      subst (λ (n : NodeData). Walked start path n (i + 1)) (sym e)
-      (record {
+      record {
         range = child_cell-range node k w.range;
         depth = omega (arith, child-depth node k, w.depth);
-        along = w.along ∙ one node (take 255 path) i inside ∙ ap (λ (j : ℕ). data_along (child_data node j) (drop (i + 1) (take 255 path))) same;
-      })
+        along = w.along ∙ one node path i h;
+      }
 
-  pub walk_end : (end : ℕ) → end ≡ min 255 (length path) → end ≤ i → node ≡ data_along start (take 255 path)
+  pub walk_end : length path ≤ i → node ≡ data_along start path
   unfolding data_along
-  walk_end end m h =
-      let out : length (take 255 path) ≤ i = omega (arith, length-take 255 path) in
-      sym (w.along ∙ ap (λ (l : List ℕ). data_along node l) (drop_of_length-le (take 255 path) out))
+  walk_end out = sym (w.along ∙ ap (λ (l : List ℕ). data_along node l) (drop_of_length-le path out))
 
 -- the tests of the settings, as the code has them
 pub root-accepted : (s : Settings) (t : Bool) → t ≡ in_range s → t ≡ true → in_range s ≡ true

@@ -5,14 +5,14 @@ ghost use Rattle.arithmetic.specs.Ints.{natural};
 ghost use Rattle.grid.specs.Grids.{edge};
 ghost use Rattle.grid.specs.Spans.{first_met, past_met, span_met};
 
-use crate::grid::Span;
+use std::ops::Range;
 
-// Whether the last window on an axis ends at 1073741823 or before; 64 bits hold where it ends, whatever the numbers.
-pub fn end_fits(first: i32, size: i32, number: i32) -> bool
-    ensures { result ≡ le_z (edge first (natural size) (natural number)) (pos 1073741823) }
-{
-    let along = (arithmetic::natural(number) as u64) * (arithmetic::natural(size) as u64);
-    (first as i64) + (along as i64) <= 1073741823
+// Where the first window begins, the windows' size, and how many there are.
+#[derive(Clone, Copy, Debug, PartialEq, Eq)]
+pub struct Axis {
+    pub first: i32,
+    pub size: i32,
+    pub number: i32,
 }
 
 // How many whole windows there are from 0 to z; none for a negative z.
@@ -20,7 +20,7 @@ fn steps(z: i64, size: u32) -> u64
     requires { 1 ≤ size }
     ensures { result ≡ natural z / size }
 {
-    if z < 0 { 0 } else { (z as u64) / (size as u64) }
+    z.max(0).unsigned_abs() / u64::from(size)
 }
 
 // How many windows end before a, or at it where a touch is not enough.
@@ -28,12 +28,7 @@ fn first_met(touching: bool, first: i32, size: u32, a: i32) -> u64
     requires { 1 ≤ size }
     ensures { result ≡ first_met touching first size a }
 {
-    let d = arithmetic::difference(a, first);
-    if touching {
-        steps(d - 1, size)
-    } else {
-        steps(d, size)
-    }
+    steps(arithmetic::difference(a, first) - i64::from(touching), size)
 }
 
 // How many windows begin before b, or at it where a touch is enough.
@@ -41,30 +36,42 @@ fn past_met(touching: bool, first: i32, size: u32, b: i32) -> u64
     requires { 1 ≤ size }
     ensures { result ≡ past_met touching first size b }
 {
-    let d = arithmetic::difference(b, first);
-    let rest = (size - 1) as i64;
-    if touching {
-        steps((d + 1) + rest, size)
-    } else {
-        steps(d + rest, size)
-    }
+    let past = arithmetic::difference(b, first) + i64::from(touching);
+    steps(past + i64::from(size - 1), size)
 }
 
 // The smaller of the two.
 fn at_most(n: u64, most: u32) -> u32
     ensures { result ≡ min n most }
 {
-    if n < (most as u64) { n as u32 } else { most }
+    n.min(u64::from(most)) as u32
 }
 
-// The windows of one axis that the interval from a to b meets.
-pub fn span_met(touching: bool, first: i32, size: i32, number: i32, a: i32, b: i32) -> Span
-    requires { 1 ≤ natural size }
-    ensures { result ≡ span_met touching first (natural size) (natural number) a b }
-{
-    let step = arithmetic::natural(size);
-    let most = arithmetic::natural(number);
-    let from = at_most(first_met(touching, first, step, a), most);
-    let to = at_most(past_met(touching, first, step, b), most);
-    Span { from, to }
+impl Axis {
+    // How many windows.
+    pub fn count(self) -> u32
+        ensures { result ≡ natural self.number }
+    {
+        arithmetic::natural(self.number)
+    }
+
+    // Whether the last window ends at 1073741823 or before; 64 bits hold where it ends, whatever the numbers.
+    pub fn end_fits(self) -> bool
+        ensures { result ≡ le_z (edge self.first (natural self.size) (natural self.number)) (pos 1073741823) }
+    {
+        let along = u64::from(self.count()) * u64::from(arithmetic::natural(self.size));
+        i64::from(self.first) + (along as i64) <= 1073741823
+    }
+
+    // The windows that the interval from a to b meets: from a number on and before another, none if that is no larger.
+    pub fn met(self, touching: bool, a: i32, b: i32) -> Range<u32>
+        requires { 1 ≤ natural self.size }
+        ensures { result ≡ span_met touching self.first (natural self.size) (natural self.number) a b }
+    {
+        let size = arithmetic::natural(self.size);
+        let number = self.count();
+        let from = at_most(first_met(touching, self.first, size, a), number);
+        let to = at_most(past_met(touching, self.first, size, b), number);
+        from..to
+    }
 }

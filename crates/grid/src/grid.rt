@@ -1,13 +1,14 @@
 // The grid of a report: where its first window begins, the windows' size, and how many there are in a row and in a column.
 ghost use Rattle.std.specs.Prelude.{◌≡◌, true};
 ghost use Rattle.grid.specs.Grids.{columns_of, rows_of, windows, sizes_fit, corner_fits};
-ghost use Rattle.grid.specs.Spans.{columns_met, rows_met, span_length};
+ghost use Rattle.grid.specs.Spans.{columns_met, rows_met, across_axis, down_axis};
 
-use crate::axis;
+use crate::axis::Axis;
 use geometry::aabb::AABB;
+use std::ops::Range;
 
 // Of any numbers: §19.3 says which are in range.
-#[derive(Clone, Copy)]
+#[derive(Clone, Copy, Debug, PartialEq, Eq)]
 pub struct Grid {
     pub x: i32,
     pub y: i32,
@@ -17,58 +18,57 @@ pub struct Grid {
     pub rows: i32,
 }
 
-// The windows on one axis from a number on and before another: none, if `to` is no larger.
-#[derive(Clone, Copy)]
-pub struct Span {
-    pub from: u32,
-    pub to: u32,
-}
-
-impl Span {
-    // How many windows.
-    pub fn length(self) -> u32
-        ensures { result ≡ span_length self }
+impl Grid {
+    // The axis of the columns.
+    fn across(self) -> Axis
+        ensures { result ≡ across_axis self }
     {
-        if self.to < self.from {
-            0
-        } else {
-            self.to - self.from
+        Axis {
+            first: self.x,
+            size: self.width,
+            number: self.columns,
         }
     }
-}
 
-impl Grid {
+    // The axis of the rows.
+    fn down(self) -> Axis
+        ensures { result ≡ down_axis self }
+    {
+        Axis {
+            first: self.y,
+            size: self.height,
+            number: self.rows,
+        }
+    }
+
     // Whether the windows' size and number are in range (§19.3, refusal 11).
     pub fn sizes_fit(self) -> bool
         ensures { result ≡ sizes_fit self }
     {
         let size = (1 <= self.width) & (1 <= self.height);
-        let columns = (1 <= self.columns) & (self.columns <= 64);
-        let rows = (1 <= self.rows) & (self.rows <= 64);
-        size & (columns & rows)
+        size & ((1..=64).contains(&self.columns) & (1..=64).contains(&self.rows))
     }
 
     // Whether the far corner is in range (§19.3, refusal 12).
+    #[tactic(auto, unfolding(crate::specs::Grids::corner_fits))]
     pub fn corner_fits(self) -> bool
         ensures { result ≡ corner_fits self }
     {
-        let x = axis::end_fits(self.x, self.width, self.columns);
-        let y = axis::end_fits(self.y, self.height, self.rows);
-        x & y
+        self.across().end_fits() & self.down().end_fits()
     }
 
     // How many columns.
     pub fn column_count(self) -> u32
         ensures { result ≡ columns_of self }
     {
-        arithmetic::natural(self.columns)
+        self.across().count()
     }
 
     // How many rows.
     pub fn row_count(self) -> u32
         ensures { result ≡ rows_of self }
     {
-        arithmetic::natural(self.rows)
+        self.down().count()
     }
 
     // How many windows.
@@ -80,20 +80,18 @@ impl Grid {
     }
 
     // The columns that a rectangle meets (§19.2): a touch is enough where it is flat.
-    pub fn columns_met(self, rect: AABB) -> Span
+    pub fn columns_met(self, rect: AABB) -> Range<u32>
         requires { sizes_fit self ≡ true }
         ensures { result ≡ columns_met self rect }
     {
-        let flat = rect.is_degenerate();
-        axis::span_met(flat, self.x, self.width, self.columns, rect.x1, rect.x2)
+        self.across().met(rect.is_degenerate(), rect.x1, rect.x2)
     }
 
     // The rows that a rectangle meets (§19.2).
-    pub fn rows_met(self, rect: AABB) -> Span
+    pub fn rows_met(self, rect: AABB) -> Range<u32>
         requires { sizes_fit self ≡ true }
         ensures { result ≡ rows_met self rect }
     {
-        let flat = rect.is_degenerate();
-        axis::span_met(flat, self.y, self.height, self.rows, rect.y1, rect.y2)
+        self.down().met(rect.is_degenerate(), rect.y1, rect.y2)
     }
 }

@@ -1,16 +1,18 @@
 -- What an exported call writes and returns, by its reply (§18.3, §18.4).
 --     result_of     what is returned: 0 or the refusal, 8 with 256 times the number wanted added
+--     refused_result       the same of a refusal
 --     state_row, answer_row  the state row and the answer row after a reply; a refused call leaves them as they were
 --     number, yes_or_no, splits_told, hits_opened, wide        the two words of an answer
 --     Out          an answer row and a result, by a reply
 --     made_row      the state row after a make
-use Rattle.std.specs.Prelude.{◌≡◌, List, [], ◌∷◌, Bool, ℕ, ◌+◌, ◌*◌}
+use Rattle.std.specs.Prelude.{◌≡◌, List, [], ◌∷◌, Bool, ℕ, ◌+◌, ◌*◌, Result}
 use Rattle.words.specs.Words.{low_word, high_word}
 use Rattle.model.specs.declared.State.{State}
 use Rattle.model.specs.declared.answers.Asked.{Asked}
 use Rattle.model.specs.declared.answers.Found.{Found}
-use Rattle.model.specs.declared.answers.MakeAnswer.{MakeAnswer}
+use Rattle.model.specs.declared.refusal.Refusal.{Refusal}
 use Rattle.model.specs.Calls.{Reply, refused, too_many, answered, refusal, yes_no}
+use Rattle.model.specs.Refusals.{by_number}
 use Rattle.model.specs.Answers.{make_reply, make_state}
 use Rattle.host_rows.specs.Rows.{state_in, with_state}
 
@@ -19,6 +21,10 @@ abbrev pub result_of : {A : Type 0} → Reply A → ℕ
 result_of {A} (refused k) = refusal {A = A} (refused k)
 result_of {A} (too_many n) = refusal {A = A} (too_many n) + 256 * n
 result_of {A} (answered a) = refusal (answered a)
+
+-- the same by the refusal
+abbrev pub refused_result : Refusal → ℕ
+refused_result = by_number (λ k. k) (λ n. 8 + 256 * n)
 
 abbrev pub state_row : {A : Type 0} → State → List ℕ → Reply A → List ℕ
 state_row s row (refused k) = row
@@ -53,5 +59,5 @@ pub record Out {A : Type 0} (words : A → List ℕ) (reply : Reply A) (row row'
   pub returned : result ≡ result_of reply
 
 -- make has no answer row
-abbrev pub made_row : MakeAnswer → List ℕ → List ℕ
+abbrev pub made_row : Result State Refusal → List ℕ → List ℕ
 made_row m row = state_row (make_state (state_in row) m) row (make_reply m)

@@ -94,18 +94,3 @@ pub fn state_out(state: &mut [u32], next: State)
     state[9] = next.live;
     wide_out(state, 10, next.changes);
 }
-
-pub fn answer_out(answer: &mut [u32], first: u32, second: u32)
-    requires { length answer.old ≡ 2 }
-    ensures { answer.new ≡ first ∷ second ∷ [] }
-{
-    answer[0] = first;
-    answer[1] = second;
-}
-
-// What a call returns that was refused 8.
-pub fn too_many(many: u32) -> u64
-    ensures { result ≡ 8 + 256 * many }
-{
-    8 + 256 * (many as u64)
-}

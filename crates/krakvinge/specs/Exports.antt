@@ -2,7 +2,7 @@
 --     Lent         the rows: state, nodes, dots, rectangles, marks, answer
 --     Exported     THE PATTERN: refusal 1 where the host's own rows don't fit, else the call
 --     Inserts, Asks, Places, Removes, CleansUp, Queries, CollectsIds, ListsAll, ListsLeaves, CountsDots, Reports, Batches, LaysPatch, Makes, Checks
-use Rattle.std.specs.Prelude.{◌≡◌, List, [], Bool, true, false, ℕ, ℤ, length}
+use Rattle.std.specs.Prelude.{◌≡◌, List, [], Bool, true, false, ℕ, ℤ, length, Result}
 use Rattle.geometry.specs.declared.aabb.AABB.{AABB}
 use Rattle.grid.specs.declared.grid.Grid.{Grid}
 use Rattle.model.specs.declared.Dot.{Dot}
@@ -16,7 +16,7 @@ use Rattle.model.specs.Calls.{Reply}
 use Rattle.model.specs.Calls.{Insert, Remove, Cleanup, Query, CollectIds, All, Leaves, References, GridReport, Make, Batch}
 use Rattle.model.specs.Patch.{patch_fits, LayPatch}
 use Rattle.model.specs.Tickets.{Ask, Place}
-use Rattle.model.specs.declared.answers.MakeAnswer.{MakeAnswer}
+use Rattle.model.specs.declared.refusal.Refusal.{Refusal}
 use Rattle.model.specs.Answers.{make_reply, make_state}
 use Rattle.tree_check.specs.Checks.{Checked}
 use Rattle.host_rows.specs.Rows.{settings_in, state_in, rows_fit}
@@ -118,7 +118,7 @@ pub record LaysPatch (p : Patch) (l l' : Lent) (result : ℕ) : Type 0 where
 pub record Makes (row nodes dots : List ℕ) (rects : List ℤ) (marks row' nodes' dots' : List ℕ) (rects' : List ℤ) (marks' : List ℕ) (result : ℕ) : Type 0 where
   pub other_length : (length row ≡ 12 → ⊥) → (result ≡ 1) × (row' ≡ row) × (nodes' ≡ nodes) × (dots' ≡ dots) × (rects' ≡ rects) × (marks' ≡ marks)
   pub carried_out : length row ≡ 12
-      → (m : MakeAnswer) × ((before : State) → Make (world before nodes dots rects marks) (settings_in row)
+      → (m : Result State Refusal) × ((before : State) → Make (world before nodes dots rects marks) (settings_in row)
       (world (make_state before m) nodes' dots' rects' marks') (make_reply m))
       × (result ≡ result_of (make_reply m)) × (row' ≡ made_row m row)
 

@@ -9,9 +9,10 @@ use calls::references::references;
 use calls::report::grid_report;
 use geometry::aabb::AABB;
 use grid::grid::Grid;
-use host_rows::answers::{grid_out, list_out, query_out, references_out};
+use host_rows::answers::{answer_out, refused};
 use host_rows::rows::{rows_fit, state_in};
 use model::Window;
+use model::refusal::Refusal;
 use tree_check::check::check;
 
 // The ids of the dots of the mask's inks that the rectangle meets; the answer is their number and the nodes opened.
@@ -36,7 +37,7 @@ pub extern "C" fn krakvinge_query(
         answer.new) ids.new result }
 {
     if !rows_fit(state, answer) {
-        return 1;
+        return refused(Refusal::BadLengths);
     }
     let before = state_in(state);
     let rect = AABB { x1, y1, x2, y2 };
@@ -49,7 +50,7 @@ pub extern "C" fn krakvinge_query(
         Window { rect, inks },
         ids,
     );
-    query_out(answer, done)
+    answer_out(answer, done)
 }
 
 // The original's collect_ids: a query with the root's rectangle, of all inks.
@@ -68,11 +69,11 @@ pub extern "C" fn krakvinge_collect_ids(
         (lent state.now nodes.now dots.now rects.now marks.new answer.new) ids.new result }
 {
     if !rows_fit(state, answer) {
-        return 1;
+        return refused(Refusal::BadLengths);
     }
     let before = state_in(state);
     let done = collect_ids(before, nodes, dots, rects, marks, ids);
-    query_out(answer, done)
+    answer_out(answer, done)
 }
 
 // The ids of all dots; the answer is their number.
@@ -91,11 +92,11 @@ pub extern "C" fn krakvinge_all(
         (lent state.now nodes.now dots.now rects.now marks.new answer.new) ids.new result }
 {
     if !rows_fit(state, answer) {
-        return 1;
+        return refused(Refusal::BadLengths);
     }
     let before = state_in(state);
     let done = all(before, nodes, dots, rects, marks, ids);
-    list_out(answer, done)
+    answer_out(answer, done)
 }
 
 // Six numbers a leaf (§9.2); the answer is the number of leaves.
@@ -114,11 +115,11 @@ pub extern "C" fn krakvinge_leaves(
         (lent state.now nodes.now dots.now rects.now marks.new answer.new) row.new result }
 {
     if !rows_fit(state, answer) {
-        return 1;
+        return refused(Refusal::BadLengths);
     }
     let before = state_in(state);
     let done = leaves(before, nodes, dots, rects, marks, row);
-    list_out(answer, done)
+    answer_out(answer, done)
 }
 
 // The dots in all leaves; the answer is their number.
@@ -136,11 +137,11 @@ pub extern "C" fn krakvinge_references(
         answer.new) result }
 {
     if !rows_fit(state, answer) {
-        return 1;
+        return refused(Refusal::BadLengths);
     }
     let before = state_in(state);
     let done = references(before, nodes, dots, rects, marks);
-    references_out(answer, done)
+    answer_out(answer, done)
 }
 
 // The check that each call begins with, alone: 0 where the rows are a tree.
@@ -155,10 +156,13 @@ pub extern "C" fn krakvinge_check(
     ensures { Checks state.now nodes.now dots.now rects.now marks.old marks.new result }
 {
     if state.len() != 12 {
-        return 1;
+        return refused(Refusal::BadLengths);
     }
     let before = state_in(state);
-    check(before, nodes, dots, rects, marks) as u64
+    match check(before, nodes, dots, rects, marks) {
+        Ok(()) => 0,
+        Err(refusal) => u64::from(refusal.number()),
+    }
 }
 
 // The counts of a grid's windows; the answer is the total, its low word first.
@@ -184,7 +188,7 @@ pub extern "C" fn krakvinge_grid(
         answer.new) counts.new result }
 {
     if !rows_fit(state, answer) {
-        return 1;
+        return refused(Refusal::BadLengths);
     }
     let before = state_in(state);
     let grid = Grid {
@@ -196,5 +200,5 @@ pub extern "C" fn krakvinge_grid(
         rows,
     };
     let done = grid_report(before, nodes, dots, rects, marks, grid, counts);
-    grid_out(answer, done)
+    answer_out(answer, done)
 }

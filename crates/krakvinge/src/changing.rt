@@ -7,9 +7,10 @@ use calls::insert::insert;
 use calls::make::make;
 use calls::remove::remove;
 use geometry::aabb::AABB;
-use host_rows::answers::{insert_out, make_out, yes_no_out};
+use host_rows::answers::{change_out, make_out, refused, yes_no_out};
 use host_rows::rows::{rows_fit, settings_in, state_in};
 use model::Dot;
+use model::refusal::Refusal;
 
 // Makes the rows a fresh tree with the settings of the state row, and writes its free heads, live number and count of changes there.
 #[unsafe(no_mangle)]
@@ -24,7 +25,7 @@ pub extern "C" fn krakvinge_make(
         nodes.new dots.new rects.new marks.new result }
 {
     if state.len() != 12 {
-        return 1;
+        return refused(Refusal::BadLengths);
     }
     let settings = settings_in(state);
     let done = make(settings, nodes, dots, rects, marks);
@@ -52,12 +53,12 @@ pub extern "C" fn krakvinge_insert(
         (lent state.new nodes.new dots.new rects.new marks.new answer.new) result }
 {
     if !rows_fit(state, answer) {
-        return 1;
+        return refused(Refusal::BadLengths);
     }
     let before = state_in(state);
     let rect = AABB { x1, y1, x2, y2 };
     let done = insert(before, nodes, dots, rects, marks, Dot { id, rect, ink });
-    insert_out(state, answer, done)
+    change_out(state, answer, done)
 }
 
 // The first dot with the id in the leaf that the rectangle routes to; the answer is 1 for yes, 0 for no.
@@ -80,7 +81,7 @@ pub extern "C" fn krakvinge_remove(
         (lent state.new nodes.new dots.new rects.new marks.new answer.new) result }
 {
     if !rows_fit(state, answer) {
-        return 1;
+        return refused(Refusal::BadLengths);
     }
     let before = state_in(state);
     let rect = AABB { x1, y1, x2, y2 };
@@ -103,7 +104,7 @@ pub extern "C" fn krakvinge_cleanup(
         answer.new) result }
 {
     if !rows_fit(state, answer) {
-        return 1;
+        return refused(Refusal::BadLengths);
     }
     let before = state_in(state);
     let done = cleanup(before, nodes, dots, rects, marks);

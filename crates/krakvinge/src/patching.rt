@@ -3,9 +3,10 @@ ghost use Rattle.host_rows.specs.Rows.{patch_of};
 ghost use Rattle.krakvinge.specs.Exports.{lent, LaysPatch};
 
 use calls::patch::patch;
-use host_rows::answers::patch_out;
+use host_rows::answers::{change_out, refused};
 use host_rows::rows::{rows_fit, state_in};
 use model::patch::Patch;
+use model::refusal::Refusal;
 
 // One-unit dots of ink 0 where the threshold is below the tint, in columns times rows of tiles; the answer is the number of dots.
 // Refusal 13 comes ahead of 1.
@@ -37,12 +38,12 @@ pub extern "C" fn krakvinge_patch(
         first_id,
     };
     if !laying.in_range() {
-        return 13;
+        return refused(Refusal::BadPatch);
     }
     if !rows_fit(state, answer) {
-        return 1;
+        return refused(Refusal::BadLengths);
     }
     let before = state_in(state);
     let done = patch(before, nodes, dots, rects, marks, laying);
-    patch_out(state, answer, done)
+    change_out(state, answer, done)
 }

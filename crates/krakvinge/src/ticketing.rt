@@ -5,10 +5,11 @@ ghost use Rattle.krakvinge.specs.Exports.{lent, Asks, Places};
 use calls::ask::ask;
 use calls::place::place;
 use geometry::aabb::AABB;
-use host_rows::answers::{ask_out, insert_out};
+use host_rows::answers::{ask_out, change_out, refused};
 use host_rows::rows::state_in;
 use host_rows::tickets::{ticket_fits, ticket_in};
 use model::Dot;
+use model::refusal::Refusal;
 
 // What the insert of a dot would do; the answer is the number of splits, and the ticket row is written.
 #[unsafe(no_mangle)]
@@ -33,7 +34,7 @@ pub extern "C" fn krakvinge_ask(
         answer.new) ticket.new result }
 {
     if !ticket_fits(state, answer, ticket) {
-        return 1;
+        return refused(Refusal::BadLengths);
     }
     let before = state_in(state);
     let rect = AABB { x1, y1, x2, y2 };
@@ -57,10 +58,10 @@ pub extern "C" fn krakvinge_place(
         (lent state.new nodes.new dots.new rects.new marks.new answer.new) result }
 {
     if !ticket_fits(state, answer, ticket) {
-        return 1;
+        return refused(Refusal::BadLengths);
     }
     let before = state_in(state);
     let given = ticket_in(ticket);
     let done = place(before, nodes, dots, rects, marks, given);
-    insert_out(state, answer, done)
+    change_out(state, answer, done)
 }

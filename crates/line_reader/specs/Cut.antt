@@ -1,7 +1,7 @@
 -- Input cut into lines (§13.2).
 --     lines        THE LINES of an input
 --     kept_lines    each line's first bytes, as many as there is room for: with room for 81 a line of more than 80 is told from one of 80
---     keep, take_byte, read_bytes, read_pieces, finish        the reader: it keeps a part of a line, and takes a turn with each whole line
+--     keep, keep_all, take_byte, read_bytes, read_pieces, finish        the reader: it keeps a part of a line, and takes a turn with each whole line
 --     hand_out      the turn that lists the lines
 --     scan         to the end of the line
 use Rattle.std.specs.Prelude.{List, [], ◌∷◌, ◌++◌, map, cond, ℕ, eqb, ltb, length, take}
@@ -26,6 +26,11 @@ kept_lines room bs = map (take room) (lines bs)
 -- a byte more of a line, where there is room
 unfoldable pub keep : ℕ → List ℕ → ℕ → List ℕ
 keep room kept b = cond (ltb (length kept) room) (kept ++ (b ∷ [])) kept
+
+-- more bytes of a line, one after another
+abbrev pub keep_all : ℕ → List ℕ → List ℕ → List ℕ
+keep_all room kept [] = kept
+keep_all room kept (b ∷ bs) = keep_all room (keep room kept b) bs
 
 -- what is left at the input's end is a line, if it is anything
 abbrev pub last_line : List ℕ → List (List ℕ)

@@ -5,23 +5,22 @@ ghost use Rattle.std.specs.Prelude.{◌≤◌, length};
 ghost use Rattle.line_reader.specs.Steps.{Kept, Finds};
 
 // A whole line at the row's front and the place after its LF, or all bytes are taken; and how many bytes the line, or the part kept, has.
+// No Option: both ways tell how many bytes stand in the row.
 #[derive(Clone, Copy)]
 pub enum Found {
     Line(usize, usize),
     More(usize),
 }
 
-// A byte more of a line, where the row has room.
-fn keep(line: &mut [u8], kept: usize, b: u8) -> usize
+// More bytes of a line, as many as the row has room for.
+fn keep(line: &mut [u8], kept: usize, bytes: &[u8]) -> usize
     requires { kept ≤ length line.old }
-    ensures { Kept line.old kept b line.new result }
+    ensures { Kept line.old kept bytes.now line.new result }
 {
-    if kept < line.len() {
-        line[kept] = b;
-        kept + 1
-    } else {
-        kept
-    }
+    let count = (line.len() - kept).min(bytes.len());
+    let end = kept + count;
+    line[kept..end].copy_from_slice(&bytes[..count]);
+    end
 }
 
 // The bytes from a place on, to the end of the line or to their own.
@@ -29,15 +28,9 @@ pub fn next_line(line: &mut [u8], kept: usize, bytes: &[u8], at: usize) -> Found
     requires { (kept ≤ length line.old) × (at ≤ length bytes.now) }
     ensures { Finds line.old kept bytes.now at line.new result }
 {
-    let mut n = kept;
-    let mut i = at;
-    while i < bytes.len() {
-        let b = bytes[i];
-        if b == b'\n' {
-            return Found::Line(n, i + 1);
-        }
-        n = keep(line, n, b);
-        i += 1;
+    let rest = &bytes[at..];
+    match rest.iter().position(|b| *b == b'\n') {
+        Some(end) => Found::Line(keep(line, kept, &rest[..end]), at + end + 1),
+        None => Found::More(keep(line, kept, rest)),
     }
-    Found::More(n)
 }

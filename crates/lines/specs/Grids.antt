@@ -2,12 +2,10 @@
 --     grid_kinds, grid_values, grid_text      a grid's line
 --     GridFits                             a grid that a line can hold
 --     GridLineOf                           THE STATEMENT: the grid whose line the bytes are
-use Rattle.std.specs.Prelude.{◌≡◌, List, [], ◌∷◌, ◌++◌, ℕ, ◌≤◌, ℤ, length}
+use Rattle.std.specs.Prelude.{◌≡◌, List, [], ◌∷◌, ◌++◌, Option, Some, None, ℕ, ◌≤◌, ℤ, length}
 use Rattle.grid.specs.declared.grid.Grid.{Grid}
 use Rattle.lines.specs.Text.{Kind, i32, WithinAll, fields}
 use Rattle.lines.specs.Lines.{four}
-use Rattle.lines.specs.declared.grid_line.GridLine.{GridLine}
-use Rattle.lines.specs.declared.grid_line.GridLine.TheVariants as line
 
 -- six integers
 abbrev pub grid_kinds : List Kind
@@ -23,7 +21,7 @@ grid_text g = 71 ∷ fields (grid_values g)
 abbrev pub GridFits : Grid → Type 0
 GridFits g = WithinAll grid_kinds (grid_values g)
 
--- §13.2, §13.4: the grid whose text the bytes are; a line of no grid is another
-abbrev pub GridLineOf : List ℕ → GridLine → Type 0
-GridLineOf bytes (line.Grid g) = (length bytes ≤ 80) × GridFits g × (grid_text g ≡ bytes)
-GridLineOf bytes line.Other = length bytes ≤ 80 → (g : Grid) → GridFits g → grid_text g ≡ bytes → ⊥
+-- §13.2, §13.4: the grid whose text the bytes are; a line of no grid is `None`
+abbrev pub GridLineOf : List ℕ → Option Grid → Type 0
+GridLineOf bytes (Some g) = (length bytes ≤ 80) × GridFits g × (grid_text g ≡ bytes)
+GridLineOf bytes None = length bytes ≤ 80 → (g : Grid) → GridFits g → grid_text g ≡ bytes → ⊥

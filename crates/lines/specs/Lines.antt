@@ -1,15 +1,12 @@
 -- The lines of calls (§13.3, §13.4).
 --     letter, kinds, values, text      a call's line
---     NumbersOf                        what follows the letter, read as a call's numbers
+--     CallOf                           what follows the letter, read as a call's numbers
 --     LineOf                           THE STATEMENT: what a line is
-use Rattle.std.specs.Prelude.{◌≡◌, List, [], ◌∷◌, ◌++◌, Bool, ℕ, ◌≤◌, ℤ, pos, length, drop}
+use Rattle.std.specs.Prelude.{◌≡◌, List, [], ◌∷◌, ◌++◌, Option, Some, None, ℕ, ◌≤◌, ℤ, pos, length}
 use Rattle.geometry.specs.declared.aabb.AABB.{AABB}
 use Rattle.lines.specs.Text.{Kind, u32, i32, WithinAll, fields}
-use Rattle.lines.specs.Reading.{Whole}
 use Rattle.lines.specs.declared.line.Call.{Call}
 use Rattle.lines.specs.declared.line.Call.TheVariants.{Settings, Insert, InsertInk, Remove, Cleanup, Query}
-use Rattle.lines.specs.declared.line.Line.{Line}
-use Rattle.lines.specs.declared.line.Line.TheVariants as line
 
 -- S, I, D, C, Q
 abbrev pub letter : Call → ℕ
@@ -57,17 +54,12 @@ text c = letter c ∷ fields (values c)
 abbrev pub Fits : Call → Type 0
 Fits c = WithinAll (kinds c) (values c)
 
--- read?: what follows the line's first byte are numbers of the call's types, and the call has them
-abbrev pub NumbersOf : Call → List ℕ → Bool → Type 0
-NumbersOf c bytes read? = Whole (kinds c) (drop 1 bytes) read? (values c)
+-- §13.3: the call of a letter whose numbers' fields the bytes after the letter are, if they are a call's
+abbrev pub CallOf : ℕ → List ℕ → Option Call → Type 0
+CallOf l rest (Some c) = (letter c ≡ l) × Fits c × (fields (values c) ≡ rest)
+CallOf l rest None = (c : Call) → letter c ≡ l → Fits c → fields (values c) ≡ rest → ⊥
 
--- a line, not too long, that begins with a letter
-pub record Begins (l : ℕ) (bytes : List ℕ) : Type 0 where
-  pub few : length bytes ≤ 80
-  pub some : 1 ≤ length bytes
-  pub first : bytes ≡ l ∷ drop 1 bytes
-
--- §13.2, §13.4: the call whose text the bytes are; a line of no call is unreadable
-abbrev pub LineOf : List ℕ → Line → Type 0
-LineOf bytes (line.Call c) = (length bytes ≤ 80) × Fits c × (text c ≡ bytes)
-LineOf bytes line.Unreadable = length bytes ≤ 80 → (c : Call) → Fits c → text c ≡ bytes → ⊥
+-- §13.2, §13.4: the call whose text the bytes are; a line of no call is unreadable, `None`
+abbrev pub LineOf : List ℕ → Option Call → Type 0
+LineOf bytes (Some c) = (length bytes ≤ 80) × Fits c × (text c ≡ bytes)
+LineOf bytes None = length bytes ≤ 80 → (c : Call) → Fits c → text c ≡ bytes → ⊥

@@ -1,8 +1,7 @@
-// The lines of the calls: a letter, compared at the line's start, and its fields.
-ghost use Rattle.std.specs.Prelude.{◌≤◌, length};
-ghost use Rattle.lines.specs.Lines.{Begins, LineOf, NumbersOf};
+// The lines of the calls: a letter, and its fields.
+ghost use Rattle.lines.specs.Lines.{CallOf, LineOf};
 
-use crate::field::{read_four, read_natural, read_three};
+use crate::field::Fields;
 use geometry::aabb::AABB;
 use geometry::settings::Settings;
 use model::Dot;
@@ -18,155 +17,76 @@ pub enum Call {
     Query(AABB),
 }
 
-#[derive(Clone, Copy)]
-pub enum Line {
-    Call(Call),
-    Unreadable,
-}
-
-// Settings, if they are all that follows the letter.
-#[derive(Clone, Copy)]
-struct SettingsFields {
-    pub ok: bool,
-    pub settings: Settings,
-}
-
-fn settings_fields(line: &[u8]) -> SettingsFields
-    requires { 1 ≤ length line.now }
-    ensures { NumbersOf (Call.Settings result.settings) line.now result.ok }
+fn settings_line(rest: &[u8]) -> Option<Call>
+    ensures { CallOf 83 rest.now result }
 {
-    let root = read_four(line, 1);
-    let limits = read_three(line, root.next);
-    let rect = root.rect;
+    let mut fields = Fields { rest };
+    let root = fields.rect()?;
+    let depth_limit = fields.natural()?;
+    let leaf_limit = fields.natural()?;
+    let smallest_cell = fields.natural()?;
     let settings = Settings {
-        left: rect.x1,
-        top: rect.y1,
-        width: rect.x2,
-        height: rect.y2,
-        depth_limit: limits.depth_limit,
-        leaf_limit: limits.leaf_limit,
-        smallest_cell: limits.smallest_cell,
+        left: root.x1,
+        top: root.y1,
+        width: root.x2,
+        height: root.y2,
+        depth_limit,
+        leaf_limit,
+        smallest_cell,
     };
-    SettingsFields {
-        ok: (root.ok & limits.ok) & (limits.next == line.len()),
-        settings,
-    }
+    fields.is_empty().then_some(Call::Settings(settings))
 }
 
-// An id, a rectangle and an ink: whether the first two are all that follows the letter, and whether all three are.
-#[derive(Clone, Copy)]
-struct DotFields {
-    pub without_ink: bool,
-    pub with_ink: bool,
-    pub dot: Dot,
-}
-
-fn dot_fields(line: &[u8]) -> DotFields
-    requires { 1 ≤ length line.now }
-    ensures plain { NumbersOf (Call.Insert result.dot.id result.dot.rect) line.now result.without_ink }
-    ensures inked { NumbersOf (Call.InsertInk result.dot) line.now result.with_ink }
+fn insert_line(rest: &[u8]) -> Option<Call>
+    ensures { CallOf 73 rest.now result }
 {
-    let id = read_natural(line, 1);
-    let corners = read_four(line, id.next);
-    let ink = read_natural(line, corners.next);
-    let rect = corners.rect;
-    let dot = Dot {
-        id: id.value,
-        rect,
-        ink: ink.value,
-    };
-    DotFields {
-        without_ink: (id.ok & corners.ok) & (corners.next == line.len()),
-        with_ink: ((id.ok & corners.ok) & ink.ok) & (ink.next == line.len()),
-        dot,
+    let mut fields = Fields { rest };
+    let id = fields.natural()?;
+    let rect = fields.rect()?;
+    if fields.is_empty() {
+        return Some(Call::Insert(id, rect));
     }
+    let ink = fields.natural()?;
+    let dot = Dot { id, rect, ink };
+    fields.is_empty().then_some(Call::InsertInk(dot))
 }
 
-fn settings_line(line: &[u8]) -> Line
-    requires { Begins 83 line.now }
+fn remove_line(rest: &[u8]) -> Option<Call>
+    ensures { CallOf 68 rest.now result }
+{
+    let mut fields = Fields { rest };
+    let id = fields.natural()?;
+    let rect = fields.rect()?;
+    fields.is_empty().then_some(Call::Remove(id, rect))
+}
+
+fn cleanup_line(rest: &[u8]) -> Option<Call>
+    ensures { CallOf 67 rest.now result }
+{
+    rest.is_empty().then_some(Call::Cleanup)
+}
+
+fn query_line(rest: &[u8]) -> Option<Call>
+    ensures { CallOf 81 rest.now result }
+{
+    let mut fields = Fields { rest };
+    let rect = fields.rect()?;
+    fields.is_empty().then_some(Call::Query(rect))
+}
+
+// The call that a line, without its LF, is.
+pub fn read_line(line: &[u8]) -> Option<Call>
     ensures { LineOf line.now result }
 {
-    let fields = settings_fields(line);
-    let settings = fields.settings;
-    if fields.ok {
-        Line::Call(Call::Settings(settings))
-    } else {
-        Line::Unreadable
-    }
-}
-
-fn insert_line(line: &[u8]) -> Line
-    requires { Begins 73 line.now }
-    ensures { LineOf line.now result }
-{
-    let fields = dot_fields(line);
-    let dot = fields.dot;
-    let rect = dot.rect;
-    if fields.without_ink {
-        return Line::Call(Call::Insert(dot.id, rect));
-    }
-    if fields.with_ink {
-        Line::Call(Call::InsertInk(dot))
-    } else {
-        Line::Unreadable
-    }
-}
-
-fn remove_line(line: &[u8]) -> Line
-    requires { Begins 68 line.now }
-    ensures { LineOf line.now result }
-{
-    let fields = dot_fields(line);
-    let dot = fields.dot;
-    let rect = dot.rect;
-    if fields.without_ink {
-        Line::Call(Call::Remove(dot.id, rect))
-    } else {
-        Line::Unreadable
-    }
-}
-
-fn cleanup_line(line: &[u8]) -> Line
-    requires { Begins 67 line.now }
-    ensures { LineOf line.now result }
-{
-    if line.len() <= 1 {
-        Line::Call(Call::Cleanup)
-    } else {
-        Line::Unreadable
-    }
-}
-
-fn query_line(line: &[u8]) -> Line
-    requires { Begins 81 line.now }
-    ensures { LineOf line.now result }
-{
-    let corners = read_four(line, 1);
-    let rect = corners.rect;
-    if corners.ok & (corners.next == line.len()) {
-        Line::Call(Call::Query(rect))
-    } else {
-        Line::Unreadable
-    }
-}
-
-// What a line, without its LF, says.
-pub fn read_line(line: &[u8]) -> Line
-    ensures { LineOf line.now result }
-{
-    if line.len() == 0 {
-        return Line::Unreadable;
-    }
     if line.len() > 80 {
-        return Line::Unreadable;
+        return None;
     }
-    let letter = line[0];
-    match letter {
-        b'S' => settings_line(line),
-        b'I' => insert_line(line),
-        b'D' => remove_line(line),
-        b'C' => cleanup_line(line),
-        b'Q' => query_line(line),
-        _ => Line::Unreadable,
+    match line {
+        [b'S', rest @ ..] => settings_line(rest),
+        [b'I', rest @ ..] => insert_line(rest),
+        [b'D', rest @ ..] => remove_line(rest),
+        [b'C', rest @ ..] => cleanup_line(rest),
+        [b'Q', rest @ ..] => query_line(rest),
+        _ => None,
     }
 }

@@ -3,8 +3,7 @@ ghost use Rattle.std.specs.Prelude.{◌+◌, ◌*◌, ◌^◌, ◌≤◌, ◌<�
 ghost use Rattle.lines.specs.Reading.{Put, output, Written};
 ghost use Rattle.lines.specs.Report.{window_line, window_row, window_lines, total_line, report};
 
-use crate::number::put_natural;
-use crate::row::{put_byte, put_bytes, put_field};
+use crate::row::{put_byte, put_bytes, put_field, put_natural};
 
 // A window's line: at most two digits, two digits and ten, two commas, an LF.
 fn put_window(out: &mut [u8], at: usize, column: u32, row: u32, count: u32) -> usize
@@ -23,10 +22,8 @@ fn put_row(out: &mut [u8], at: usize, columns: u32, row: u32, counts: &[u32], fi
     ensures { Put out.old at (window_row columns row counts.now first) out.new result }
 {
     let mut next = at;
-    let mut column = 0;
-    while column < columns {
+    for column in 0..columns {
         next = put_window(out, next, column, row, counts[first + column as usize]);
-        column += 1;
     }
     next
 }
@@ -37,12 +34,9 @@ fn put_rows(out: &mut [u8], columns: u32, rows: u32, counts: &[u32]) -> usize
     ensures { Put out.old 0 (window_lines columns rows counts.now) out.new result }
 {
     let mut next = 0;
-    let mut first = 0;
-    let mut row = 0;
-    while row < rows {
-        next = put_row(out, next, columns, row, counts, first);
-        first += columns as usize;
-        row += 1;
+    for row in 0..rows {
+        let first = row * columns;
+        next = put_row(out, next, columns, row, counts, first as usize);
     }
     next
 }

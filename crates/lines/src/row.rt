@@ -1,9 +1,9 @@
 // Bytes put into a row, from a place on; each answers the place after them.
-ghost use Rattle.std.specs.Prelude.{◌∷◌, [], map, ◌+◌, ◌*◌, ◌≤◌, ◌<◌, pos, length, take};
-ghost use Rattle.lines.specs.Text.{fields};
+ghost use Rattle.std.specs.Prelude.{◌∷◌, [], map, ◌+◌, ◌*◌, ◌≤◌, ◌<◌, pos, length};
+ghost use Rattle.lines.specs.Text.{decimal, fields};
 ghost use Rattle.lines.specs.Reading.{Put};
 
-use crate::number::put_natural;
+use itoa::Buffer;
 
 pub fn put_byte(out: &mut [u8], at: usize, b: u8) -> usize
     requires { at < length out.old }
@@ -18,13 +18,18 @@ pub fn put_bytes(out: &mut [u8], at: usize, bytes: &[u8]) -> usize
     requires { at + length bytes.now ≤ length out.old }
     ensures { Put out.old at bytes.now out.new result }
 {
-    let mut next = at;
-    let mut i = 0;
-    while i < bytes.len() {
-        next = put_byte(out, next, bytes[i]);
-        i += 1;
-    }
-    next
+    let end = at + bytes.len();
+    out[at..end].copy_from_slice(bytes);
+    end
+}
+
+// The decimal text of n. Nothing says which bytes std's `write!` leaves in a lent row, so the text is itoa's.
+pub fn put_natural(out: &mut [u8], at: usize, n: u32) -> usize
+    requires { at + 10 ≤ length out.old }
+    ensures { Put out.old at (decimal n) out.new result }
+{
+    let mut text = Buffer::new();
+    put_bytes(out, at, text.format(n).as_bytes())
 }
 
 // A comma and a number.
@@ -36,16 +41,14 @@ pub fn put_field(out: &mut [u8], at: usize, n: u32) -> usize
     put_natural(out, from, n)
 }
 
-// The first numbers of a row, each with its comma.
-pub fn put_fields(out: &mut [u8], at: usize, row: &[u32], count: usize) -> usize
-    requires { (count ≤ length row.now) × (at + 11 * count ≤ length out.old) }
-    ensures { Put out.old at (fields (map pos (take count row.now))) out.new result }
+// Each number of a row, with its comma.
+pub fn put_fields(out: &mut [u8], at: usize, numbers: &[u32]) -> usize
+    requires { at + 11 * length numbers.now ≤ length out.old }
+    ensures { Put out.old at (fields (map pos numbers.now)) out.new result }
 {
     let mut next = at;
-    let mut i = 0;
-    while i < count {
-        next = put_field(out, next, row[i]);
-        i += 1;
+    for n in numbers {
+        next = put_field(out, next, *n);
     }
     next
 }

@@ -14,6 +14,7 @@ use geometry::settings::Settings;
 use model::{Dot, State};
 
 // A fresh node's words: an empty leaf, save that a group's first node names the next group's.
+#[tactic(auto, unfolding(crate::specs::Fresh::fresh_node))]
 fn fresh_node(groups: usize, node: usize) -> Node
     requires { (groups ≤ 16384) × (node < 1 + 5 * groups) }
     ensures { result ≡ fresh_node groups node }
@@ -29,6 +30,7 @@ fn fresh_node(groups: usize, node: usize) -> Node
 }
 
 // The place after a fresh place, or none.
+#[tactic(auto, unfolding(crate::specs::Fresh::fresh_next, model::specs::Layout::none))]
 fn fresh_next(places: usize, place: usize) -> u32
     requires { (places ≤ 65536) × (place < places) }
     ensures { result ≡ fresh_next places place }
@@ -44,10 +46,8 @@ fn make_nodes(nodes: &mut [u32], groups: usize)
     requires { (groups ≤ 16384) × (length nodes.old ≡ 2 * (1 + 5 * groups)) }
     ensures { FreshNodes groups nodes.new }
 {
-    let mut node = 0;
-    while node < 1 + 5 * groups {
+    for node in 0..1 + 5 * groups {
         set_node(nodes, node, fresh_node(groups, node));
-        node += 1;
     }
 }
 
@@ -55,15 +55,14 @@ fn make_places(dots: &mut [u32], rects: &mut [i32], places: usize)
     requires { (places ≤ 65536) × (length dots.old ≡ dots_for places) × (length rects.old ≡ 4 * places) }
     ensures { FreshPlaces places dots.new rects.new }
 {
-    let mut place = 0;
-    while place < places {
+    for place in 0..places {
         set_dot(dots, rects, place, Dot::zero());
         set_next(dots, place, fresh_next(places, place));
-        place += 1;
     }
 }
 
 // The head of a free list: none where there is nothing to list.
+#[tactic(auto, unfolding(model::specs::Layout::none))]
 fn head(count: usize, first: u32) -> u32
     ensures { result ≡ cond (eqb count 0) none first }
 {
@@ -71,15 +70,14 @@ fn head(count: usize, first: u32) -> u32
 }
 
 // The state of the fresh tree.
+#[tactic(auto, unfolding(crate::specs::Fresh::fresh_state))]
 fn fresh_state(settings: Settings, groups: usize, places: usize) -> State
     ensures { result ≡ fresh_state settings groups places }
 {
-    let free_group = head(groups, 1);
-    let free_place = head(places, 0);
     State {
         settings,
-        free_group,
-        free_place,
+        free_group: head(groups, 1),
+        free_place: head(places, 0),
         live: 0,
         changes: 0,
     }

@@ -2,6 +2,7 @@
 // Layers above know nodes, groups and places by number, and no offsets.
 #![tactic(auto)]
 
+pub mod chain;
 pub mod fresh;
 pub mod lengths;
 pub mod marks;

@@ -21,6 +21,7 @@
 --     Opening      the opened count is the number of the nodes opened
 --     Pattern      a memory has one shape; what is left by a call is fixed; refusals keep
 -- Single calls:
+--     Refusals     what is said of a refusal by its number
 --     Calls        what each call leaves, by the cases of its rule
 --     Listing      what the reading calls list
 --     All          what an accepted all has answered
@@ -63,6 +64,7 @@ pub mod Memory
 pub mod Places
 pub mod Opening
 pub mod Pattern
+pub mod Refusals
 pub mod Calls
 pub mod Listing
 pub mod All

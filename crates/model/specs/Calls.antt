@@ -12,6 +12,8 @@ use Rattle.geometry.specs.declared.settings.Settings.{Settings}
 use Rattle.model.specs.declared.Dot.{Dot}
 use Rattle.model.specs.declared.Window.{Window}
 use Rattle.model.specs.declared.Record.{Record}
+use Rattle.model.specs.declared.Kind.{Kind}
+use Rattle.model.specs.declared.Kind.TheVariants as kind
 use Rattle.model.specs.declared.State.{State}
 use Rattle.model.specs.declared.answers.Found.{Found}
 use Rattle.geometry.specs.Rectangles.{inverted, far_out}
@@ -168,11 +170,14 @@ recorded word x (overflow n) = record { shape = x; word = refused_word 8 }
 recorded word x (accept y row a) = record { shape = y; word = word a }
 
 -- §10.2, §10.5: the kinds, and 9 for any other
+abbrev pub carry_out_as : Kind → Dot → Shape → Recorded
+carry_out_as kind.Insert dot x = recorded (λ splits. splits) x (insert_rule dot x)
+carry_out_as kind.Remove dot x = recorded yes_no x (remove_rule dot.id dot.rect x)
+carry_out_as kind.Cleanup dot x = recorded yes_no x (cleanup_rule x)
+carry_out_as kind.Unknown dot x = record { shape = x; word = refused_word 9 }
+
 unfoldable pub carry_out : Record → Shape → Recorded
-carry_out r x =
-    cond (eqb r.kind 0) (recorded (λ splits. splits) x (insert_rule r.dot x))
-    (cond (eqb r.kind 1) (recorded yes_no x (remove_rule r.dot.id r.dot.rect x))
-    (cond (eqb r.kind 2) (recorded yes_no x (cleanup_rule x)) (record { shape = x; word = refused_word 9 })))
+carry_out r x = carry_out_as r.kind r.dot x
 
 -- §10.3: record after record, each on what the one before left
 abbrev pub batch_shape : List Record → Shape → Shape

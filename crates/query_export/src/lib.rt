@@ -7,7 +7,7 @@ ghost use Rattle.host_rows.specs.Rows.{state_in, rect_of};
 ghost use Rattle.query_export.specs.Answers.{Lists, ListsAll};
 
 use geometry::aabb::AABB;
-use host_rows::answers::{list_out, query_out};
+use host_rows::answers::answer_out;
 use host_rows::rows::state_in;
 use model::Window;
 use tree_all::all_row;
@@ -35,7 +35,7 @@ pub extern "C" fn krakvinge_query_unchecked(
     let before = state_in(state);
     let rect = AABB { x1, y1, x2, y2 };
     let done = query_row(before, nodes, dots, rects, Window { rect, inks }, ids);
-    query_out(answer, done)
+    answer_out(answer, done)
 }
 
 // The rows and the result as krakvinge's all has them; no rectangles.
@@ -53,5 +53,5 @@ pub extern "C" fn krakvinge_all_unchecked(
 {
     let before = state_in(state);
     let done = all_row(before, nodes, dots, ids);
-    list_out(answer, done)
+    answer_out(answer, done)
 }

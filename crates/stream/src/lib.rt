@@ -1,24 +1,17 @@
 // Reads and writes that a signal may interrupt: such a call is made again, and any other error is told.
-// Nothing says that the signals end, so the turns are counted down from a number that no run uses up.
+// Nothing says that the signals end, so a loop ends after a number of turns that no run uses up.
 #![tactic(auto)]
 
-ghost use Rattle.std.specs.Prelude.{◌≡◌, true, false, IsSome, None, ◌<◌, ◌≤◌, length, take};
+ghost use Rattle.std.specs.Prelude.{◌≡◌, true, false, IsSome, IfSome, IfNone, OnSome, Some, None, ◌<◌, ◌≤◌, length, take};
 ghost use Rattle.std.specs.Io.KnownBytes.{Appends, Consumes, IsAtEnd, Keeps};
 
 use std::io::{Error, ErrorKind, Read, Write};
 
-// A reader or a writer, and the error of its last call that failed, if one did.
+// A reader or a writer, and the error of its last call that failed, if one did: it stays here for the end of the program, which says it.
 #[derive(Drop)]
 pub struct Stream<S> {
     pub inner: S,
     pub failure: Option<Error>,
-}
-
-// How many bytes came, 0 at the input's end; or the read failed.
-#[derive(Clone, Copy)]
-pub struct Got {
-    pub ok: bool,
-    pub count: usize,
 }
 
 impl<S> Stream<S> {
@@ -33,36 +26,29 @@ impl<S> Stream<S> {
     }
 }
 
-pub fn read_some<R: Read>(input: &mut Stream<R>, buffer: &mut [u8]) -> Got
-    ensures count { result.count ≤ length buffer.new }
-    ensures bytes { result.ok ≡ true → Consumes (R.remaining input.old.inner) (R.remaining input.new.inner)
-        (take result.count buffer.new) }
-    ensures end { result.ok ≡ true → result.count ≡ 0 → 0 < length buffer.new → IsAtEnd (R.remaining input.new.inner) }
-    ensures unread { result.ok ≡ false → Keeps (R.remaining input.old.inner) (R.remaining input.new.inner) }
-    ensures told { result.ok ≡ false → (result.count ≡ 0) × IsSome input.new.failure }
-    ensures kept { result.ok ≡ true → input.new.failure ≡ input.old.failure }
+// How many bytes came, 0 at the input's end; `None` after a read that failed.
+pub fn read_some<R: Read>(input: &mut Stream<R>, buffer: &mut [u8]) -> Option<usize>
+    ensures count { IfSome result (λ count. count ≤ length buffer.new) }
+    ensures bytes { IfSome result (λ count. Consumes (R.remaining input.old.inner) (R.remaining input.new.inner)
+        (take count buffer.new)) }
+    ensures end { result ≡ Some 0 → 0 < length buffer.new → IsAtEnd (R.remaining input.new.inner) }
+    ensures unread { IfNone result (Keeps (R.remaining input.old.inner) (R.remaining input.new.inner)) }
+    ensures told { IfNone result (IsSome input.new.failure) }
+    ensures kept { OnSome result (input.new.failure ≡ input.old.failure) }
 {
-    let mut turns = u64::MAX;
-    while turns > 0 {
+    for _ in 0..u64::MAX {
         match input.inner.read(buffer) {
-            Ok(count) => return Got { ok: true, count },
+            Ok(count) => return Some(count),
             Err(error) => {
                 if error.kind() != ErrorKind::Interrupted {
                     input.failure = Some(error);
-                    return Got {
-                        ok: false,
-                        count: 0,
-                    };
+                    return None;
                 }
             }
         }
-        turns -= 1;
     }
     input.failure = Some(Error::from(ErrorKind::Interrupted));
-    Got {
-        ok: false,
-        count: 0,
-    }
+    None
 }
 
 // Writes all the bytes, however many a write takes; false after a write that failed.
@@ -72,8 +58,7 @@ pub fn write_bytes<W: Write>(output: &mut Stream<W>, bytes: &[u8]) -> bool
     ensures kept { result ≡ true → output.new.failure ≡ output.old.failure }
 {
     let mut done = 0;
-    let mut turns = u64::MAX;
-    while turns > 0 {
+    for _ in 0..u64::MAX {
         if done == bytes.len() {
             return true;
         }
@@ -86,7 +71,6 @@ pub fn write_bytes<W: Write>(output: &mut Stream<W>, bytes: &[u8]) -> bool
                 }
             }
         }
-        turns -= 1;
     }
     output.failure = Some(Error::from(ErrorKind::Interrupted));
     false

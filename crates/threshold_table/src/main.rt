@@ -6,17 +6,16 @@ ghost use Rattle.model.specs.Thresholds.{threshold_at};
 ghost use Rattle.threshold_table.specs.Quarters.{quarter_of};
 
 use std::io;
-use std::io::Write;
-use stream::{Stream, write_bytes};
 
 // What is added in a quarter, by its column and its row: 0 and 2 above, 3 and 1 below.
 fn quarter(column: u32, row: u32) -> u32
     ensures { result ≡ quarter_of column row }
 {
-    if row % 2 == 0 {
-        if column % 2 == 0 { 0 } else { 2 }
-    } else {
-        if column % 2 == 0 { 3 } else { 1 }
+    match (row % 2, column % 2) {
+        (0, 0) => 0,
+        (0, _) => 2,
+        (_, 0) => 3,
+        _ => 1,
     }
 }
 
@@ -32,42 +31,11 @@ fn threshold(column: u32, row: u32) -> u32
     64 * first + 16 * second + 4 * third + fourth
 }
 
-// The last decimal digit.
-fn digit(number: u32) -> u8 {
-    48 + (number % 10) as u8
-}
-
-// A line of the table.
-fn write_entry<W: Write>(output: &mut Stream<W>, number: u32)
-    requires { number ≤ 255 }
-{
-    let mut text = [0u8; 5];
-    text[0] = digit(number / 100);
-    text[1] = digit(number / 10);
-    text[2] = digit(number);
-    text[3] = 44;
-    text[4] = 10;
-    write_bytes(output, b"    ");
-    if number >= 100 {
-        write_bytes(output, &text[0..5]);
-    } else {
-        if number >= 10 {
-            write_bytes(output, &text[1..5]);
-        } else {
-            write_bytes(output, &text[2..5]);
-        }
-    }
-}
-
 fn main(rt: HostRuntime) -> io::Result<()> {
-    let mut output = Stream::new(rt.stdout());
-    write_bytes(
-        &mut output,
-        b"// The thresholds of a tile, row by row.\npub const THRESHOLDS: [u8; 256] = [\n",
-    );
+    println!(rt; "// The thresholds of a tile, row by row.")?;
+    println!(rt; "pub const THRESHOLDS: [u8; 256] = [")?;
     for place in 0u32..256 {
-        write_entry(&mut output, threshold(place % 16, place / 16));
+        println!(rt; "    {},", threshold(place % 16, place / 16))?;
     }
-    write_bytes(&mut output, b"];\n");
-    output.failure.map_or(Ok(()), Err)
+    println!(rt; "];")
 }

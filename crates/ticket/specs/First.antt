@@ -1,7 +1,7 @@
 -- The answer to the first line (§13.5).
 --     MakeLine     make, and the line of its reply
 --     Started      the first line: an `S`; or another line or none, and the end
-use Rattle.std.specs.Prelude.{◌≡◌, List, [], ◌∷◌, ℕ}
+use Rattle.std.specs.Prelude.{◌≡◌, List, [], ◌∷◌, ℕ, Option, Some, None}
 use Rattle.geometry.specs.declared.settings.Settings.{Settings}
 use Rattle.geometry.specs.Settings.{D}
 use Rattle.model.specs.declared.State.{State}
@@ -11,8 +11,7 @@ use Rattle.lines.specs.Text.{answer}
 use Rattle.lines.specs.Reading.{Output, Written}
 use Rattle.lines.specs.Lines.{LineOf}
 use Rattle.lines.specs.declared.line.Call.TheVariants as call
-use Rattle.lines.specs.declared.line.Line.{Line}
-use Rattle.lines.specs.declared.line.Line.TheVariants as line
+use Rattle.lines.specs.declared.line.Call.{Call}
 use Rattle.ticket.specs.declared.Start.{Start}
 use Rattle.ticket.specs.declared.Start.TheVariants as start
 use Rattle.ticket.specs.Ticket.{refusal_line, reply_line}
@@ -45,17 +44,17 @@ pub record NoStart (w : World) (r : Start) (w' : World) (out : Output) : Type 0 
   pub kept : w' ≡ w
   pub line : Written out (refusal_line 9)
 
-abbrev pub FirstAnswer : World → Line → Start → World → Output → Type 0
-FirstAnswer w (line.Call (call.Settings s)) r w' out = MakeLine w s r w' out
-FirstAnswer w (line.Call (call.Insert id x)) r w' out = NoStart w r w' out
-FirstAnswer w (line.Call (call.InsertInk d)) r w' out = NoStart w r w' out
-FirstAnswer w (line.Call (call.Remove id x)) r w' out = NoStart w r w' out
-FirstAnswer w (line.Call call.Cleanup) r w' out = NoStart w r w' out
-FirstAnswer w (line.Call (call.Query q)) r w' out = NoStart w r w' out
-FirstAnswer w line.Unreadable r w' out = NoStart w r w' out
+abbrev pub FirstAnswer : World → Option Call → Start → World → Output → Type 0
+FirstAnswer w (Some (call.Settings s)) r w' out = MakeLine w s r w' out
+FirstAnswer w (Some (call.Insert id x)) r w' out = NoStart w r w' out
+FirstAnswer w (Some (call.InsertInk d)) r w' out = NoStart w r w' out
+FirstAnswer w (Some (call.Remove id x)) r w' out = NoStart w r w' out
+FirstAnswer w (Some call.Cleanup) r w' out = NoStart w r w' out
+FirstAnswer w (Some (call.Query q)) r w' out = NoStart w r w' out
+FirstAnswer w None r w' out = NoStart w r w' out
 
 -- THE STATEMENT for the first line: what it says, and the answer to that
 pub record Started (w : World) (input : List ℕ) (r : Start) (w' : World) (out : Output) : Type 0 where
-  pub says : Line
+  pub says : Option Call
   pub is : LineOf input says
   pub answer : FirstAnswer w says r w' out

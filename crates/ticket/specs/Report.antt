@@ -2,7 +2,7 @@
 --     line_text, report_lines        a window's line, and the report's text, line by line, and the total
 --     GridAnswered the grid report, and its lines
 --     Turned       THE STATEMENT: a grid's line is answered by its report, and is the last; any other as dotcheck answers it
-use Rattle.std.specs.Prelude.{◌≡◌, List, ◌++◌, ℕ}
+use Rattle.std.specs.Prelude.{◌≡◌, List, ◌++◌, ℕ, Option, Some, None}
 use Rattle.grid.specs.declared.grid.Grid.{Grid}
 use Rattle.grid.specs.Grids.{columns_of, rows_of}
 use Rattle.model.specs.Lists.{join_over}
@@ -12,8 +12,6 @@ use Rattle.model.specs.Calls.{Reply, GridReport}
 use Rattle.lines.specs.Report.{window_line, total_line, report}
 use Rattle.lines.specs.Reading.{Output, Written}
 use Rattle.lines.specs.Grids.{GridLineOf}
-use Rattle.lines.specs.declared.grid_line.GridLine.{GridLine}
-use Rattle.lines.specs.declared.grid_line.GridLine.TheVariants as line
 use Rattle.ticket.specs.declared.Start.{Start}
 use Rattle.ticket.specs.declared.Start.TheVariants as start
 use Rattle.ticket.specs.Ticket.{reply_line, Answered}
@@ -31,11 +29,11 @@ pub record GridAnswered (w : World) (g : Grid) (row : List ℕ) (w' : World) (ro
   pub call : GridReport w g row w' row' reply
   pub line : Written out (reply_line (report (columns_of g) (rows_of g) row') reply)
 
-abbrev pub TurnAnswer : World → List ℕ → List ℕ → GridLine → Start → World → List ℕ → Output → Type 0
-TurnAnswer w row input (line.Grid g) r w' row' out = (r ≡ start.Ended out.next) × GridAnswered w g row w' row' out
-TurnAnswer w row input line.Other r w' row' out = (r ≡ start.Going w'.state out.next) × Answered w row input w' row' out
+abbrev pub TurnAnswer : World → List ℕ → List ℕ → Option Grid → Start → World → List ℕ → Output → Type 0
+TurnAnswer w row input (Some g) r w' row' out = (r ≡ start.Ended out.next) × GridAnswered w g row w' row' out
+TurnAnswer w row input None r w' row' out = (r ≡ start.Going w'.state out.next) × Answered w row input w' row' out
 
 pub record Turned (w : World) (row input : List ℕ) (r : Start) (w' : World) (row' : List ℕ) (out : Output) : Type 0 where
-  pub says : GridLine
+  pub says : Option Grid
   pub is : GridLineOf input says
   pub answer : TurnAnswer w row input says r w' row' out

@@ -4,7 +4,7 @@
 --     plain_dot     what an insert without an ink puts in
 --     CallLine, Called             a call and its line, by the call
 --     Answered                     a later line
-use Rattle.std.specs.Prelude.{◌≡◌, List, [], ◌∷◌, Bool, ℕ, take}
+use Rattle.std.specs.Prelude.{◌≡◌, List, [], ◌∷◌, Bool, ℕ, take, Option, Some, None}
 use Rattle.geometry.specs.declared.aabb.AABB.{AABB}
 use Rattle.model.specs.declared.Dot.{Dot}
 use Rattle.model.specs.declared.Window.{Window}
@@ -17,8 +17,6 @@ use Rattle.lines.specs.Reading.{Output, Written}
 use Rattle.lines.specs.Lines.{LineOf}
 use Rattle.lines.specs.declared.line.Call.{Call}
 use Rattle.lines.specs.declared.line.Call.TheVariants as call
-use Rattle.lines.specs.declared.line.Line.{Line}
-use Rattle.lines.specs.declared.line.Line.TheVariants as line
 
 -- §13.6: `E,` and the refusal
 abbrev pub refusal_line : ℕ → List ℕ
@@ -77,12 +75,12 @@ CallLine w row (call.Query r) w' row' out = QueryLine w (of_all_inks r) row w' r
 pub record Called (w : World) (row : List ℕ) (c : Call) (w' : World) (row' : List ℕ) (out : Output) : Type 0 where
   pub answer : CallLine w row c w' row' out
 
-abbrev pub LineAnswer : World → List ℕ → Line → World → List ℕ → Output → Type 0
-LineAnswer w row (line.Call c) w' row' out = Called w row c w' row' out
-LineAnswer w row line.Unreadable w' row' out = Nine w row w' row' out
+abbrev pub LineAnswer : World → List ℕ → Option Call → World → List ℕ → Output → Type 0
+LineAnswer w row (Some c) w' row' out = Called w row c w' row' out
+LineAnswer w row None w' row' out = Nine w row w' row' out
 
 -- THE STATEMENT for a later line: what it says, and the answer to that
 pub record Answered (w : World) (row input : List ℕ) (w' : World) (row' : List ℕ) (out : Output) : Type 0 where
-  pub says : Line
+  pub says : Option Call
   pub is : LineOf input says
   pub answer : LineAnswer w row says w' row' out

@@ -3,7 +3,7 @@
 
 use model::State;
 
-// The state of the fresh tree, or the end; and where the answer's bytes end.
+// The state of the fresh tree, or the end; and where the answer's bytes end. No Option: the end is a phase of the program.
 #[derive(Clone, Copy)]
 pub enum Start {
     Going(State, usize),

@@ -11,7 +11,6 @@ use calls::insert::insert;
 use calls::remove::remove;
 use geometry::aabb::AABB;
 use lines::answer::{answer_one, answer_two};
-use model::answers::{InsertAnswer, YesNoAnswer};
 use model::{Dot, State};
 use ticket::Step;
 
@@ -31,13 +30,16 @@ pub fn answer_insert(
         (output out.old out.new result.next) }
 {
     match insert(state, nodes, dots, rects, marks, dot) {
-        InsertAnswer::Refused(number) => {
-            let next = answer_one(out, b'E', number);
+        Err(refusal) => {
+            let next = answer_one(out, b'E', refusal.number());
             Step { state, next }
         }
-        InsertAnswer::Splits(splits, after) => {
-            let next = answer_two(out, b'I', dot.id, splits);
-            Step { state: after, next }
+        Ok(inserted) => {
+            let next = answer_two(out, b'I', dot.id, inserted.number);
+            Step {
+                state: inserted.state,
+                next,
+            }
         }
     }
 }
@@ -59,15 +61,15 @@ pub fn answer_remove(
         (output out.old out.new result.next) }
 {
     match remove(state, nodes, dots, rects, marks, id, rect) {
-        YesNoAnswer::Refused(number) => {
-            let next = answer_one(out, b'E', number);
+        Err(refusal) => {
+            let next = answer_one(out, b'E', refusal.number());
             Step { state, next }
         }
-        YesNoAnswer::Yes(after) => {
+        Ok(Some(after)) => {
             let next = answer_two(out, b'D', id, 1);
             Step { state: after, next }
         }
-        YesNoAnswer::No => {
+        Ok(None) => {
             let next = answer_two(out, b'D', id, 0);
             Step { state, next }
         }
@@ -89,15 +91,15 @@ pub fn answer_cleanup(
         (output out.old out.new result.next) }
 {
     match cleanup(state, nodes, dots, rects, marks) {
-        YesNoAnswer::Refused(number) => {
-            let next = answer_one(out, b'E', number);
+        Err(refusal) => {
+            let next = answer_one(out, b'E', refusal.number());
             Step { state, next }
         }
-        YesNoAnswer::Yes(after) => {
+        Ok(Some(after)) => {
             let next = answer_one(out, b'C', 1);
             Step { state: after, next }
         }
-        YesNoAnswer::No => {
+        Ok(None) => {
             let next = answer_one(out, b'C', 0);
             Step { state, next }
         }

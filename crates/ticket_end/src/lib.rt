@@ -22,13 +22,7 @@ pub struct Progress {
 fn is_left(phase: Phase, kept: usize) -> bool
     ensures { result ≡ is_left phase kept }
 {
-    let some = kept > 0;
-    match phase {
-        Phase::First => true,
-        Phase::Going(_) => some,
-        Phase::Ended => some,
-        Phase::Failed => some,
-    }
+    matches!(phase, Phase::First) || kept > 0
 }
 
 // The phase at the input's end.
@@ -36,10 +30,8 @@ fn ended(phase: Phase) -> Phase
     ensures { result ≡ end_phase phase }
 {
     match phase {
-        Phase::First => Phase::Ended,
-        Phase::Going(_) => Phase::Ended,
-        Phase::Ended => Phase::Ended,
-        Phase::Failed => Phase::Failed,
+        Phase::Failed => phase,
+        _ => Phase::Ended,
     }
 }
 

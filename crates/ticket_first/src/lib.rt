@@ -11,9 +11,8 @@ ghost use Rattle.ticket.specs.First.{MakeLine, Started, after_start, end_of};
 use calls::make::make;
 use geometry::settings::Settings;
 use lines::answer::answer_one;
-use lines::line::{Call, Line, read_line};
+use lines::line::{Call, read_line};
 use model::State;
-use model::answers::MakeAnswer;
 use ticket::Start;
 
 fn answer_settings(
@@ -31,8 +30,8 @@ fn answer_settings(
         (output out.old out.new (end_of result)) }
 {
     match make(settings, nodes, dots, rects, marks) {
-        MakeAnswer::Refused(number) => Start::Ended(answer_one(out, b'E', number)),
-        MakeAnswer::Made(state) => Start::Going(state, answer_one(out, b'S', settings.deepest())),
+        Err(refusal) => Start::Ended(answer_one(out, b'E', refusal.number())),
+        Ok(state) => Start::Going(state, answer_one(out, b'S', settings.deepest())),
     }
 }
 
@@ -59,15 +58,10 @@ pub fn answer_first(
         line.now result (world (after_start before result) nodes.new dots.new rects.new marks.new)
         (output out.old out.new (end_of result)) }
 {
-    let Line::Call(call) = read_line(line) else {
-        return end_nine(out);
-    };
-    match call {
-        Call::Settings(settings) => answer_settings(settings, nodes, dots, rects, marks, out),
-        Call::Insert(_, _) => end_nine(out),
-        Call::InsertInk(_) => end_nine(out),
-        Call::Remove(_, _) => end_nine(out),
-        Call::Cleanup => end_nine(out),
-        Call::Query(_) => end_nine(out),
+    match read_line(line) {
+        Some(Call::Settings(settings)) => {
+            answer_settings(settings, nodes, dots, rects, marks, out)
+        }
+        _ => end_nine(out),
     }
 }

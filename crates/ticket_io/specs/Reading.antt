@@ -3,9 +3,8 @@
 --     ReadAnswered, ReadOn         one read, or the input's end, or a read that failed
 --     Reading      the reads so far
 --     ticket_lines, AllAnswered     THE STATEMENT for a run: there are bytes, in some pieces, whose lines are those that were answered
-use Rattle.std.specs.Prelude.{◌≡◌, true, false, List, [], ◌∷◌, ℕ, ◌≤◌, length, take}
+use Rattle.std.specs.Prelude.{◌≡◌, Option, Some, None, List, [], ◌∷◌, ℕ, ◌≤◌, length, take}
 use Rattle.line_reader.specs.Cut.{lines, joined, progress, read_bytes, read_pieces, hand_out}
-use Rattle.stream.specs.declared.Got.{Got}
 use Rattle.ticket.specs.declared.Program.{Program}
 use Rattle.ticket.specs.declared.Phase.{Phase}
 use Rattle.ticket.specs.declared.Phase.TheVariants as phase
@@ -21,18 +20,17 @@ pub record Chunked (p : Program) (from : Phase) (kept bytes : List ℕ) (room : 
   pub within : to.kept ≤ length line
 
 -- by what a read brought: bytes, which the buffer begins with; the input's end; an error, after which a part of a line is no line
-pub data ReadAnswered (p : Program) (from : Progress) (got : Got) (line₀ : List ℕ) (l : Lent) (buffer : List ℕ) (to : Progress) (line : List ℕ) (l' : Lent)
+pub data ReadAnswered (p : Program) (from : Progress) (got : Option ℕ) (line₀ : List ℕ) (l : Lent) (buffer : List ℕ) (to : Progress) (line : List ℕ) (l' : Lent)
     : Type 0 where
-  some : got.ok ≡ true → (got.count ≡ 0 → ⊥)
-      → Chunked p from.phase (take from.kept line₀) (take got.count buffer) (length line₀) l to line l'
+  some : (count : ℕ) → got ≡ Some count → (count ≡ 0 → ⊥)
+      → Chunked p from.phase (take from.kept line₀) (take count buffer) (length line₀) l to line l'
       → ReadAnswered p from got line₀ l buffer to line l'
-  none : got.ok ≡ true → got.count ≡ 0 → Finished p from.phase (take from.kept line₀) l to.phase l'
-      → ReadAnswered p from got line₀ l buffer to line l'
-  failed : got.ok ≡ false → to.phase ≡ phase.Failed → l' ≡ l → ReadAnswered p from got line₀ l buffer to line l'
+  none : got ≡ Some 0 → Finished p from.phase (take from.kept line₀) l to.phase l' → ReadAnswered p from got line₀ l buffer to line l'
+  failed : got ≡ None → to.phase ≡ phase.Failed → l' ≡ l → ReadAnswered p from got line₀ l buffer to line l'
 
 -- a read of some bytes or none, whichever they are
 pub record ReadOn (p : Program) (from : Progress) (line₀ : List ℕ) (l : Lent) (buffer : List ℕ) (to : Progress) (line : List ℕ) (l' : Lent) : Type 0 where
-  pub got : Got
+  pub got : Option ℕ
   pub answered : ReadAnswered p from got line₀ l buffer to line l'
 
 -- the pieces that came so far: their whole lines are answered

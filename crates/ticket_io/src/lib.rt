@@ -12,7 +12,8 @@ use std::io::{Eprint, Read, Write};
 use stream::Stream;
 use ticket::Program;
 
-// A program's own rows: the answer's words and its bytes. The tree's, the line's and the buffer's are the same for all.
+// A program's own rows, the answer's words and its bytes, are passed: as const parameters their sizes would need bounds of their own.
+// The tree's, the line's and the buffer's are the same for all.
 fn run_program<R: Read + Drop, W: Write + Drop, E: Eprint>(
     program: Program,
     row: &mut [u32],

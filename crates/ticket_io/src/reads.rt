@@ -1,12 +1,12 @@
 // One read: the lines that end in its bytes are answered.
-ghost use Rattle.std.specs.Prelude.{◌≤◌, length, take};
+ghost use Rattle.std.specs.Prelude.{IfSome, ◌≤◌, length, take};
 ghost use Rattle.ticket.specs.Room.{Room};
 ghost use Rattle.ticket.specs.Turns.{lent};
 ghost use Rattle.ticket_io.specs.Reading.{Chunked, ReadAnswered, ReadOn};
 
 use line_reader::{Found, next_line};
 use std::io::{Read, Write};
-use stream::{Got, Stream, read_some};
+use stream::{Stream, read_some};
 use ticket::{Phase, Program};
 use ticket_end::{Progress, finish};
 use ticket_turn::turn;
@@ -56,7 +56,7 @@ fn chunk<W: Write>(
 fn answer_read<W: Write>(
     program: Program,
     progress: Progress,
-    got: Got,
+    got: Option<usize>,
     nodes: &mut [u32],
     dots: &mut [u32],
     rects: &mut [i32],
@@ -68,27 +68,29 @@ fn answer_read<W: Write>(
     output: &mut Stream<W>,
 ) -> Progress
     requires room { Room program (length row.old) (length out.old) }
-    requires kept_in_bounds { (progress.kept ≤ length line.old) × (got.count ≤ length buffer.now) }
+    requires kept_in_bounds { (progress.kept ≤ length line.old) × IfSome got (λ count. count ≤ length buffer.now) }
     ensures kept_after { result.kept ≤ length line.new }
     ensures read_answered { ReadAnswered program progress got line.old
         (lent nodes.old dots.old rects.old marks.old row.old out.old) buffer.now result
         line.new (lent nodes.new dots.new rects.new marks.new row.new out.new) }
 {
-    if got.ok {
-        if got.count == 0 {
+    match got {
+        Some(0) => {
             let phase = finish(
                 program, progress, nodes, dots, rects, marks, line, row, out, output,
             );
-            return Progress { phase, kept: 0 };
+            Progress { phase, kept: 0 }
         }
-        let bytes = &buffer[..got.count];
-        return chunk(
-            program, progress, nodes, dots, rects, marks, bytes, line, row, out, output,
-        );
-    }
-    Progress {
-        phase: Phase::Failed,
-        kept: 0,
+        Some(count) => {
+            let bytes = &buffer[..count];
+            chunk(
+                program, progress, nodes, dots, rects, marks, bytes, line, row, out, output,
+            )
+        }
+        None => Progress {
+            phase: Phase::Failed,
+            kept: 0,
+        },
     }
 }
 

@@ -14,16 +14,11 @@ use ticket_end::Progress;
 fn is_over(phase: Phase) -> bool
     ensures { result ≡ is_over phase }
 {
-    match phase {
-        Phase::First => false,
-        Phase::Going(_) => false,
-        Phase::Ended => true,
-        Phase::Failed => true,
-    }
+    matches!(phase, Phase::Ended | Phase::Failed)
 }
 
 // Reads to the input's end, or until no line is answered any more.
-// Nothing says that the input ends, so the turns are counted down from a number that no run uses up.
+// Nothing says that the input ends, so the loop ends after a number of turns that no run uses up.
 fn run<R: Read, W: Write>(
     program: Program,
     nodes: &mut [u32],
@@ -46,8 +41,7 @@ fn run<R: Read, W: Write>(
         phase: Phase::First,
         kept: 0,
     };
-    let mut turns = u64::MAX;
-    while turns > 0 {
+    for _ in 0..u64::MAX {
         progress = read_on(
             program, progress, nodes, dots, rects, marks, line, row, out, buffer, input, output,
         );
@@ -55,7 +49,6 @@ fn run<R: Read, W: Write>(
         if is_over(phase) {
             return phase;
         }
-        turns -= 1;
     }
     Phase::Failed
 }

@@ -8,8 +8,8 @@ ghost use Rattle.ticket.specs.Ticket.{Answered};
 ghost use Rattle.ticket.specs.First.{after_start, end_of};
 ghost use Rattle.ticket.specs.Report.{Turned};
 
-use lines::grid_line::{GridLine, read_grid};
-use lines::line::{Line, read_line};
+use lines::grid_line::read_grid;
+use lines::line::read_line;
 use model::State;
 use ticket::{Start, Step};
 use ticket_calls::{answer_call, answer_nine};
@@ -33,8 +33,8 @@ pub fn answer_line(
         (output out.old out.new result.next) }
 {
     match read_line(line) {
-        Line::Call(call) => answer_call(state, nodes, dots, rects, marks, call, row, out),
-        Line::Unreadable => answer_nine(state, out),
+        Some(call) => answer_call(state, nodes, dots, rects, marks, call, row, out),
+        None => answer_nine(state, out),
     }
 }
 
@@ -56,10 +56,8 @@ pub fn answer_grid_line(
         (output out.old out.new (end_of result)) }
 {
     match read_grid(line) {
-        GridLine::Grid(grid) => Start::Ended(answer_grid(
-            state, nodes, dots, rects, marks, grid, row, out,
-        )),
-        GridLine::Other => {
+        Some(grid) => Start::Ended(answer_grid(state, nodes, dots, rects, marks, grid, row, out)),
+        None => {
             let step = answer_line(state, nodes, dots, rects, marks, line, row, out);
             let after = step.state;
             Start::Going(after, step.next)

@@ -12,7 +12,6 @@ use calls::report::grid_report;
 use grid::grid::Grid;
 use lines::answer::{answer_one, answer_query};
 use lines::report::answer_report;
-use model::answers::{GridAnswer, QueryAnswer};
 use model::{State, Window};
 use ticket::Step;
 
@@ -33,15 +32,11 @@ pub fn answer_listing(
         (output out.old out.new result.next) }
 {
     match query(state, nodes, dots, rects, marks, window, row) {
-        QueryAnswer::Refused(number) => {
-            let next = answer_one(out, b'E', number);
+        Err(refusal) => {
+            let next = answer_one(out, b'E', refusal.number());
             Step { state, next }
         }
-        QueryAnswer::TooMany(_) => {
-            let next = answer_one(out, b'E', 8);
-            Step { state, next }
-        }
-        QueryAnswer::Listed(found) => {
+        Ok(found) => {
             let next = answer_query(out, found.opened, found.hits, row);
             Step { state, next }
         }
@@ -66,9 +61,8 @@ pub fn answer_grid(
         (output out.old out.new result) }
 {
     match grid_report(state, nodes, dots, rects, marks, grid, row) {
-        GridAnswer::Refused(number) => answer_one(out, b'E', number),
-        GridAnswer::TooMany(_) => answer_one(out, b'E', 8),
-        GridAnswer::Counted(total) => {
+        Err(refusal) => answer_one(out, b'E', refusal.number()),
+        Ok(total) => {
             let columns = grid.column_count();
             let rows = grid.row_count();
             answer_report(out, columns, rows, row, total)

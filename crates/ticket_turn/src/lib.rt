@@ -101,7 +101,6 @@ pub fn turn<W: Write>(
         Phase::Going(state) => answer(
             program, state, nodes, dots, rects, marks, line, row, out, output,
         ),
-        Phase::Ended => Phase::Ended,
-        Phase::Failed => Phase::Failed,
+        Phase::Ended | Phase::Failed => phase,
     }
 }

@@ -13,21 +13,21 @@ use Rattle.model.specs.Sums.{sum_below}
 use Rattle.model.specs.Lists.{filter}
 use Rattle.model.specs.Shapes.{below}
 use Rattle.model.specs.Thresholds.{threshold_at}
-use Rattle.tint.specs.declared.count.Span.{Span}
+use Rattle.std.specs.declared.ops.Range.{Range}
 
 abbrev pub sum_from : ℕ → ℕ → (ℕ → ℕ) → ℕ
 sum_from low high f = sum_below high (λ i. cond (leb low i) (f i) 0)
 
-unfoldable pub dots_between : ℕ → Span → Span → ℕ
-dots_between tint across down = sum_from down.from down.to (λ j. sum_from across.from across.to (λ i. below (threshold_at i j) tint))
+unfoldable pub dots_between : ℕ → Range ℕ → Range ℕ → ℕ
+dots_between tint across down = sum_from down.start down.end (λ j. sum_from across.start across.end (λ i. below (threshold_at i j) tint))
 
 -- of a number of corners
 unfoldable pub corners_below : ℤ → ℤ → ℕ → ℕ
 corners_below first limit number = min (natural (limit -ℤ first)) number
 
 -- a one-unit dot lies within bounds where its corner lies strictly between them
-abbrev pub corners_within : ℤ → ℤ → ℤ → ℕ → Span
-corners_within first over upto number = record { from = corners_below first (over +ℤ pos 1) number; to = corners_below first upto number }
+abbrev pub corners_within : ℤ → ℤ → ℤ → ℕ → Range ℕ
+corners_within first over upto number = record { start = corners_below first (over +ℤ pos 1) number; end = corners_below first upto number }
 
 abbrev pub within_bounds : Bounds → List AABB → List AABB
 within_bounds b rects = filter (in_bounds b) rects

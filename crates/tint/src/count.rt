@@ -1,24 +1,20 @@
 // The dots of a patch, counted by the sums of one tile: no loop, whatever the patch's size.
-ghost use Rattle.std.specs.Prelude.{◌≡◌, true, ◌≤◌, length};
+ghost use Rattle.std.specs.Prelude.{◌≡◌, true, ◌≤◌, length, min};
+ghost use Rattle.arithmetic.specs.Ints.{natural};
 ghost use Rattle.geometry.specs.Settings.{axis_fits, in_range};
 ghost use Rattle.model.specs.Patch.{patch_fits, patch_rects, patch_dots, ids_fit};
 ghost use Rattle.model.specs.Thresholds.{count_before};
 ghost use Rattle.tint.specs.Sums.{TileSums};
-ghost use Rattle.tint.specs.Counts.{dots_between, corners_below, corners_within, within_bounds, unit_upto, unit_bounds};
+ghost use Rattle.tint.specs.Counts.{dots_between, corners_within, within_bounds, unit_upto, unit_bounds};
 
+use crate::sums::SUMS;
 use geometry::bounds::Bounds;
 use geometry::settings::Settings;
 use model::patch::Patch;
-
-// Columns or rows of a patch from a number on and before another: none, if `to` is no larger.
-#[derive(Clone, Copy)]
-struct Span {
-    from: u32,
-    to: u32,
-}
+use std::ops::Range;
 
 // The dots left of a column and above a row: those of whole tiles, and of the rest beside and below them.
-fn dots_before(sums: &[u32; 289], tint: u32, column: u32, row: u32) -> u32
+fn dots_before(sums: &[u32; SUMS], tint: u32, column: u32, row: u32) -> u32
     requires { (column ≤ 1024) × (row ≤ 1024) × (tint ≤ 256) × TileSums tint sums.now }
     ensures { result ≡ count_before tint column row }
 {
@@ -30,48 +26,38 @@ fn dots_before(sums: &[u32; 289], tint: u32, column: u32, row: u32) -> u32
 }
 
 // The dots in a span of columns and a span of rows.
-fn dots_between(sums: &[u32; 289], tint: u32, across: Span, down: Span) -> u32
-    requires { (across.to ≤ 1024) × (down.to ≤ 1024) × (tint ≤ 256) × TileSums tint sums.now }
+fn dots_between(sums: &[u32; SUMS], tint: u32, across: Range<u32>, down: Range<u32>) -> u32
+    requires { (across.end ≤ 1024) × (down.end ≤ 1024) × (tint ≤ 256) × TileSums tint sums.now }
     ensures { result ≡ dots_between tint across down }
 {
-    if across.to <= across.from {
+    if across.is_empty() | down.is_empty() {
         return 0;
     }
-    if down.to <= down.from {
-        return 0;
-    }
-    let whole = dots_before(sums, tint, across.to, down.to);
-    let corner = dots_before(sums, tint, across.from, down.from);
-    let left = dots_before(sums, tint, across.from, down.to);
-    let above = dots_before(sums, tint, across.to, down.from);
+    let whole = dots_before(sums, tint, across.end, down.end);
+    let corner = dots_before(sums, tint, across.start, down.start);
+    let left = dots_before(sums, tint, across.start, down.end);
+    let above = dots_before(sums, tint, across.end, down.start);
     (whole + corner) - (left + above)
 }
 
-// How many of the corners first, first + 1 .., of which there are a number, lie below a limit.
-fn corners_below(first: i32, limit: i64, number: u32) -> u32
-    ensures { result ≡ corners_below first limit number }
+// How many of so many corners lie less than a distance after the first.
+fn corners_before(distance: i64, number: u32) -> u32
+    ensures { result ≡ min (natural distance) number }
 {
-    let start = first as i64;
-    if limit <= start {
-        return 0;
-    }
-    if start + (number as i64) <= limit {
-        return number;
-    }
-    (limit - start) as u32
+    distance.clamp(0, i64::from(number)) as u32
 }
 
 // The columns or the rows whose one-unit dots lie within the bounds of an axis: their corners lie strictly between them.
-fn corners_within(first: i32, over: i32, upto: i32, number: u32) -> Span
+fn corners_within(first: i32, over: i32, upto: i32, number: u32) -> Range<u32>
     ensures { result ≡ corners_within first over upto number }
 {
-    let from = corners_below(first, over as i64 + 1, number);
-    let to = corners_below(first, upto as i64, number);
-    Span { from, to }
+    let from = corners_before(arithmetic::difference(over, first) + 1, number);
+    let to = corners_before(arithmetic::difference(upto, first), number);
+    from..to
 }
 
 // The dots of a patch within bounds.
-pub fn dots_within(patch: Patch, sums: &[u32; 289], bounds: Bounds) -> u32
+pub fn dots_within(patch: Patch, sums: &[u32; SUMS], bounds: Bounds) -> u32
     requires { (patch_fits patch ≡ true) × TileSums patch.tint sums.now }
     ensures { result ≡ length (within_bounds bounds (patch_rects patch)) }
 {
@@ -85,7 +71,7 @@ fn unit_upto(low: i32, size: i32) -> i32
     requires { axis_fits low size ≡ true }
     ensures { result ≡ unit_upto low size }
 {
-    arithmetic::smaller(low + size + 1, 1073741823)
+    (low + size + 1).min(1073741823)
 }
 
 // The bounds within which a one-unit dot is acceptable.
@@ -93,15 +79,11 @@ pub fn unit_bounds(settings: Settings) -> Bounds
     requires { in_range settings ≡ true }
     ensures { result ≡ unit_bounds settings }
 {
-    let x_over = settings.left - 1;
-    let x_upto = unit_upto(settings.left, settings.width);
-    let y_over = settings.top - 1;
-    let y_upto = unit_upto(settings.top, settings.height);
     Bounds {
-        x_over,
-        x_upto,
-        y_over,
-        y_upto,
+        x_over: settings.left - 1,
+        x_upto: unit_upto(settings.left, settings.width),
+        y_over: settings.top - 1,
+        y_upto: unit_upto(settings.top, settings.height),
     }
 }
 
@@ -118,6 +100,5 @@ pub fn ids_fit(patch: Patch) -> bool
     requires { patch_fits patch ≡ true }
     ensures { result ≡ ids_fit (patch_dots patch) }
 {
-    let number = dots_number(patch) as u64;
-    (patch.first_id as u64) + number <= 4294967296
+    u64::from(patch.first_id) + u64::from(dots_number(patch)) <= 4294967296
 }

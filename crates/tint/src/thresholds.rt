@@ -18,7 +18,7 @@ pub fn has_dot(table: &[u8; 256], tint: u32, column: u32, row: u32) -> bool
     requires { table.now ≡ thresholds }
     ensures { result ≡ ltb (threshold_at column row) tint }
 {
-    (threshold_at(table, column, row) as u32) < tint
+    u32::from(threshold_at(table, column, row)) < tint
 }
 
 // The first column from one on that has a dot in a row, or the row's end. The thresholds repeat, so that a tile's columns are enough to look at.
@@ -27,17 +27,10 @@ pub fn next_dot(table: &[u8; 256], patch: Patch, column: u32, row: u32) -> u32
     ensures { NextDot patch column row result }
 {
     let width = 16 * patch.columns;
-    let mut at = column;
-    let mut left: u32 = 16;
-    while left > 0 {
-        if at == width {
-            return width;
-        }
+    for at in column..width.min(column + 16) {
         if has_dot(table, patch.tint, at, row) {
             return at;
         }
-        at += 1;
-        left -= 1;
     }
     width
 }

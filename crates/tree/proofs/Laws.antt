@@ -12,6 +12,7 @@
 --     Routes       the way of a rectangle to its leaf
 --     Descent      the walk down to it
 --     Children     joins over the last children of a group
+--     Rows         words written to a row, as far as it goes
 --     Chains, Leaves, Trees        a chain, a leaf, a tree in the rows
 --     Operations   the exit of an operation
 pub mod Frames
@@ -25,6 +26,7 @@ pub mod Readings
 pub mod Routes
 pub mod Descent
 pub mod Children
+pub mod Rows
 pub mod Chains
 pub mod Leaves
 pub mod Trees

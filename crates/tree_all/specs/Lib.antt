@@ -1,3 +1,3 @@
 -- What the walk of all (§8.7) asks and leaves.
---     Walks        of a chain, a node, a group, and of the whole tree
+--     Walks        of a chain, a node, and of the whole tree
 pub mod Walks

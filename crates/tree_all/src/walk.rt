@@ -1,8 +1,9 @@
 // The walk of all: it writes the ids of a chain, a node, a group, from a position of the row on, and tells the position after them.
 ghost use Rattle.tree_all.specs.Walks.{ChainList, ChainListed, NodeList, NodeListed, GroupList, GroupListed};
 
+use memory::chain::Chain;
 use memory::node::{Node, node_at};
-use memory::places::{id_at, next_at};
+use memory::places::id_at;
 
 // The ids of a leaf's chain.
 fn list_chain(dots: &[u32], leaf: Node, start: usize, row: &mut [u32]) -> usize
@@ -10,14 +11,9 @@ fn list_chain(dots: &[u32], leaf: Node, start: usize, row: &mut [u32]) -> usize
     ensures { ChainListed dots.now row.old start leaf.first leaf.count row.new result }
 {
     let mut at = start;
-    let mut place = leaf.first;
-    let mut left = leaf.count;
-    while left > 0 {
-        let p = place as usize;
-        place = next_at(dots, p);
-        row[at] = id_at(dots, p);
+    for place in Chain::new(dots, leaf) {
+        row[at] = id_at(dots, place);
         at += 1;
-        left -= 1;
     }
     at
 }
@@ -40,28 +36,25 @@ pub fn list_node(
         return list_chain(dots, words, at, row);
     }
     let first = words.first as usize;
-    list_group(nodes, dots, first, levels - 1, 5, at, row)
+    list_group(nodes, dots, first, levels - 1, at, row)
 }
 
-// The ids of the last `left` children of a group, in rising order.
+// The ids of a group's five children, in rising order.
 #[cycle(list_group_list_node)]
 fn list_group(
     nodes: &[u32],
     dots: &[u32],
     first: usize,
     levels: u32,
-    left: u32,
     at: usize,
     row: &mut [u32],
 ) -> usize
-    requires { GroupList nodes.now dots.now row.old at first levels left }
-    ensures { GroupListed nodes.now dots.now row.old at first levels left row.new result }
+    requires { GroupList nodes.now dots.now row.old at first levels 5 }
+    ensures { GroupListed nodes.now dots.now row.old at first levels 5 row.new result }
 {
-    if left == 0 {
-        return at;
+    let mut next = at;
+    for child in 0..5 {
+        next = list_node(nodes, dots, first + child, levels, next, row);
     }
-    let child = 5 - left;
-    let node = first + child as usize;
-    let next = list_node(nodes, dots, node, levels, at, row);
-    list_group(nodes, dots, first, levels, left - 1, next, row)
+    next
 }

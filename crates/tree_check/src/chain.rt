@@ -21,8 +21,7 @@ pub fn check_chain(
         chain.count marks.new result }
 {
     let mut link = chain.first;
-    let mut left = chain.count;
-    while left > 0 {
+    for _ in 0..chain.count {
         let place = link as usize;
         if place >= places {
             return false;
@@ -35,7 +34,6 @@ pub fn check_chain(
         }
         marks[place] = 1;
         link = next_at(dots, place);
-        left -= 1;
     }
     link == Node::NONE
 }

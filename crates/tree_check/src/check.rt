@@ -1,7 +1,7 @@
 // The whole check.
-ghost use Rattle.std.specs.Prelude.{◌≡◌};
 ghost use Rattle.model.specs.Layout.{world};
-ghost use Rattle.tree_check.specs.Checks.{CheckReady, Decided, answer_of, Checked};
+ghost use Rattle.model.specs.Refusals.{refusal_number};
+ghost use Rattle.tree_check.specs.Checks.{CheckReady, Decided, Checked};
 
 use crate::chain::check_chain;
 use crate::free::check_free;
@@ -12,6 +12,7 @@ use memory::lengths::{groups_in, lengths_fit, places_in};
 use memory::marks::clear_marks;
 use memory::node::Node;
 use model::State;
+use model::refusal::Refusal;
 
 // Whether the memory, whose marks are 0, is a tree; leaves marks behind.
 fn is_tree(
@@ -48,29 +49,28 @@ fn is_tree(
     all_marked(marks)
 }
 
-// Refusal 3 where the memory is no tree.
-fn answer(tree: bool) -> u32
-    ensures { result ≡ answer_of tree }
-{
-    if tree { 0 } else { 3 }
-}
-
-// Refusals 1 to 3 of every call, in this order (§11.3), or 0.
+// Refusals 1 to 3 of every call, in this order (§11.3).
 // Writes the marks alone: 0 everywhere, but for 1 and 2, which leave them as they were.
-pub fn check(state: State, nodes: &[u32], dots: &[u32], rects: &[i32], marks: &mut [u8]) -> u32
-    ensures { Checked state nodes.now dots.now rects.now marks.old marks.new result }
+pub fn check(
+    state: State,
+    nodes: &[u32],
+    dots: &[u32],
+    rects: &[i32],
+    marks: &mut [u8],
+) -> Result<(), Refusal>
+    ensures { Checked state nodes.now dots.now rects.now marks.old marks.new (refusal_number result) }
 {
     if !lengths_fit(nodes.len(), dots.len(), rects.len(), marks.len()) {
-        return 1;
+        return Err(Refusal::BadLengths);
     }
     let settings = state.settings;
     if !settings.in_range() {
-        return 2;
+        return Err(Refusal::BadSettings);
     }
     clear_marks(marks);
     let places = places_in(dots);
     let groups = groups_in(nodes);
     let tree = is_tree(state, nodes, dots, rects, marks, places, groups);
     clear_marks(marks);
-    answer(tree)
+    if tree { Ok(()) } else { Err(Refusal::NoTree) }
 }

@@ -30,10 +30,9 @@ pub fn check_node(
         if !splits {
             return false;
         }
-        let group = group_at(words.first, groups);
-        if group >= groups {
+        let Some(group) = group_at(words.first, groups) else {
             return false;
-        }
+        };
         if marks[places + group] != 0 {
             return false;
         }
@@ -64,14 +63,12 @@ fn check_group(
     ensures { GroupScanned region (read nodes.now dots.now rects.now) marks.old places groups group
         5 marks.new result }
 {
-    let mut left = 5u32;
-    while left > 0 {
-        left -= 1;
-        let node = 1 + 5 * group + (left as usize);
+    for child in (0..5).rev() {
+        let node = 1 + 5 * group + child as usize;
         if is_empty(nodes, node) {
             continue;
         }
-        let below = region.below(left);
+        let below = region.below(child);
         if !check_node(nodes, dots, rects, marks, places, groups, below, node) {
             return false;
         }

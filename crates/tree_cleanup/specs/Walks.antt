@@ -3,7 +3,8 @@
 --     walk_of       the rows and the head, as the walk of tree's Cleanup
 --     Fits         what keeps a tree within the row and its numbers small
 --     NodeToClean, NodeCleaned, GroupToClean, GroupCleaned     the contracts of the node's and the group's walk
-use Rattle.std.specs.Prelude.{◌≡◌, List, Bool, ◌&&◌, ℕ, ◌+◌, ◌≤◌, ◌<◌, ℤ, eqb}
+use Rattle.std.specs.Prelude.{◌≡◌, List, Bool, ℕ, ◌+◌, ◌≤◌, ◌<◌, ℤ, eqb}
+use Rattle.std.specs.List.{list_all, range_with_len}
 use Rattle.model.specs.Sums.{indicator, sum_over, sum_below}
 use Rattle.model.specs.Trees.{Tree, child_node, Shallow, size}
 use Rattle.model.specs.Cleanup.{down_from, turned}
@@ -18,9 +19,7 @@ abbrev pub HasGroup : List ℕ → ℕ → Type 0
 HasGroup nodes first = HasNode nodes (first + 4)
 
 unfoldable pub empty_group : List ℕ → ℕ → Bool
-empty_group nodes first =
-    (eqb (count_at nodes (first + 0)) 0 && eqb (count_at nodes (first + 1)) 0)
-    && (eqb (count_at nodes (first + 2)) 0 && eqb (count_at nodes (first + 3)) 0) && eqb (count_at nodes (first + 4)) 0
+empty_group nodes first = list_all (λ i. eqb (count_at nodes (first + i)) 0) (range_with_len 0 5)
 
 unfoldable pub turned_nodes : List ℕ → ℕ → ℕ → ℕ → List ℕ
 turned_nodes nodes a first head = set_node_at (set_node_at nodes a empty_leaf) first (record { first = head; count = 0 })

@@ -11,7 +11,7 @@ ghost use Rattle.tree_cleanup.specs.Walks.{HasGroup, empty_group, turned_nodes, 
 use memory::lengths::groups_in;
 use memory::node::{Node, node_at, set_node};
 use model::State;
-use model::answers::YesNoAnswer;
+use model::refusal::Refusal;
 
 // The head of the free groups, and how many branches were turned.
 #[derive(Clone, Copy)]
@@ -25,12 +25,7 @@ fn is_empty_group(nodes: &[u32], first: usize) -> bool
     requires { HasGroup nodes.now first }
     ensures { result ≡ empty_group nodes.now first }
 {
-    let a = node_at(nodes, first + 0).count == 0;
-    let b = node_at(nodes, first + 1).count == 0;
-    let c = node_at(nodes, first + 2).count == 0;
-    let d = node_at(nodes, first + 3).count == 0;
-    let e = node_at(nodes, first + 4).count == 0;
-    (a & b) & (c & d) & e
+    (0..5).all(|child| node_at(nodes, first + child).count == 0)
 }
 
 // Whether a node is a branch whose five children are empty.
@@ -52,14 +47,7 @@ fn has_empty_branch(nodes: &[u32]) -> bool
     ensures { Searched nodes.now result }
 {
     let count = 1 + 5 * groups_in(nodes);
-    let mut node = 0;
-    while node < count {
-        if is_empty_branch(nodes, node) {
-            return true;
-        }
-        node += 1;
-    }
-    false
+    (0..count).any(|node| is_empty_branch(nodes, node))
 }
 
 // Turns a branch into an empty leaf; its group heads the free groups.
@@ -96,33 +84,32 @@ fn clean_node(nodes: &mut [u32], swept: Swept, node: usize, levels: u32) -> Swep
             turned: swept.turned + 1,
         };
     }
-    clean_group(nodes, swept, first, levels - 1, 5)
+    clean_group(nodes, swept, first, levels - 1)
 }
 
-// A group hands back its children below `left`, the last first.
+// A group hands back its five children, the last first.
 #[cycle(clean_group_clean_node)]
-fn clean_group(nodes: &mut [u32], swept: Swept, first: usize, levels: u32, left: u32) -> Swept
-    requires { GroupToClean nodes.old swept first levels left }
-    ensures { GroupCleaned nodes.old swept first levels left nodes.new result }
+fn clean_group(nodes: &mut [u32], swept: Swept, first: usize, levels: u32) -> Swept
+    requires { GroupToClean nodes.old swept first levels 5 }
+    ensures { GroupCleaned nodes.old swept first levels 5 nodes.new result }
 {
-    if left == 0 {
-        return swept;
+    let mut next = swept;
+    for child in (0..5).rev() {
+        next = clean_node(nodes, next, first + child, levels);
     }
-    let node = first + (left - 1) as usize;
-    let next = clean_node(nodes, swept, node, levels);
-    clean_group(nodes, next, first, levels, left - 1)
+    next
 }
 
 // Cleans up the tree: whether a branch was turned, and the state after it. Where no change more can be counted, nothing is stored.
-pub fn cleanup_tree(state: State, nodes: &mut [u32]) -> YesNoAnswer
+pub fn cleanup_tree(state: State, nodes: &mut [u32]) -> Result<Option<State>, Refusal>
     requires { HasTree state nodes.old }
     ensures { CleanedUp state nodes.old nodes.new result }
 {
     if !state.can_count(1) {
         if has_empty_branch(nodes) {
-            return YesNoAnswer::Refused(16);
+            return Err(Refusal::TooManyChanges);
         }
-        return YesNoAnswer::No;
+        return Ok(None);
     }
     let settings = state.settings;
     let levels = settings.deepest();
@@ -132,8 +119,8 @@ pub fn cleanup_tree(state: State, nodes: &mut [u32]) -> YesNoAnswer
     };
     let swept = clean_node(nodes, start, 0, levels);
     if swept.turned == 0 {
-        return YesNoAnswer::No;
+        return Ok(None);
     }
     let next = state.changed(swept.head, state.free_place, state.live);
-    YesNoAnswer::Yes(next)
+    Ok(Some(next))
 }

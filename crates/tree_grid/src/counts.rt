@@ -1,48 +1,33 @@
 // The counts of a grid's windows stand in a row, rows downward: what a rectangle adds to them.
 ghost use Rattle.std.specs.Prelude.{◌≡◌, true, ◌*◌, ◌≤◌, length};
 ghost use Rattle.grid.specs.Grids.{windows, sizes_fit};
-ghost use Rattle.tree_grid.specs.Counts.{Added, Room, between, cells, weight_of, met_by, Cleared};
+ghost use Rattle.tree_grid.specs.Counts.{Added, Room, between, cells, weight_of, met_by};
 
 use geometry::aabb::AABB;
-use grid::grid::{Grid, Span};
+use grid::grid::Grid;
+use std::ops::Range;
 
-// The first words become 0.
-pub fn clear(row: &mut [u32], count: usize)
-    requires { count ≤ length row.old }
-    ensures { Cleared row.old count row.new }
-{
-    let mut i = 0;
-    while i < count {
-        row[i] = 0;
-        i += 1;
-    }
-}
-
-// Adds to the words from a place on and before another.
+// Adds to the words from a place on and before another. By their numbers, since `row[from..to]` would ask that from is no larger than to.
 fn add_between(row: &mut [u32], from: usize, to: usize, weight: u32)
     requires { (to ≤ length row.old) × Room from to weight row.old }
     ensures { Added row.old (between from to weight) row.new }
 {
-    let mut i = from;
-    while i < to {
-        row[i] = row[i] + weight;
-        i += 1;
+    for i in from..to {
+        row[i] += weight;
     }
 }
 
 // Adds to the words of these columns in each of these rows.
-fn add_cells(row: &mut [u32], columns: usize, across: Span, down: Span, weight: u32)
-    requires { (1 ≤ columns) × (across.to ≤ columns) × (columns * down.to ≤ length row.old) × Room 0 (columns * down.to) weight row.old }
+fn add_cells(row: &mut [u32], columns: usize, across: Range<u32>, down: Range<u32>, weight: u32)
+    requires { (1 ≤ columns) × (across.end ≤ columns) × (columns * down.end ≤ length row.old) × Room 0 (columns * down.end) weight row.old }
     ensures { Added row.old (cells columns across down weight) row.new }
 {
-    let first = across.from as usize;
-    let past = across.to as usize;
-    let end = down.to as usize;
-    let mut line = down.from as usize;
-    while line < end {
+    let first = across.start as usize;
+    let past = across.end as usize;
+    let end = down.end as usize;
+    for line in down.start as usize..end {
         let start = columns * line;
         add_between(row, start + first, start + past, weight);
-        line += 1;
     }
 }
 
@@ -53,8 +38,7 @@ pub fn add_rect(grid: Grid, rect: AABB, weight: u32, row: &mut [u32]) -> u64
 {
     let across = grid.columns_met(rect);
     let down = grid.rows_met(rect);
-    let columns = grid.column_count() as usize;
-    add_cells(row, columns, across, down, weight);
-    let met = across.length() * down.length();
-    (weight as u64) * (met as u64)
+    let met = across.len() as u64 * down.len() as u64;
+    add_cells(row, grid.column_count() as usize, across, down, weight);
+    u64::from(weight) * met
 }

@@ -10,7 +10,7 @@ use grid::grid::Grid;
 use memory::places::rect_at;
 
 // What the places so far add up to: the windows met, and the zero rectangles left out.
-#[derive(Clone, Copy)]
+#[derive(Clone, Copy, Debug, Default, PartialEq, Eq)]
 pub struct Pass {
     pub total: u64,
     pub zeros: u32,
@@ -23,16 +23,14 @@ fn add_place(grid: Grid, rect: AABB, pass: Pass, row: &mut [u32]) -> Pass
     ensures { Stepped grid rect row.old row.new pass result }
 {
     if rect.is_zero() {
-        let zeros = pass.zeros + 1;
         return Pass {
-            total: pass.total,
-            zeros,
+            zeros: pass.zeros + 1,
+            ..pass
         };
     }
-    let total = pass.total + add_rect(grid, rect, 1, row);
     Pass {
-        total,
-        zeros: pass.zeros,
+        total: pass.total + add_rect(grid, rect, 1, row),
+        ..pass
     }
 }
 
@@ -42,11 +40,9 @@ pub fn add_places(grid: Grid, rects: &[i32], places: usize, row: &mut [u32]) -> 
     requires places_bound { (places ≤ 65536) × (4 * places ≤ length rects.now) }
     ensures { Passed grid rects.now places row.old row.new result }
 {
-    let mut pass = Pass { total: 0, zeros: 0 };
-    let mut i = 0;
-    while i < places {
-        pass = add_place(grid, rect_at(rects, i), pass, row);
-        i += 1;
+    let mut pass = Pass::default();
+    for place in 0..places {
+        pass = add_place(grid, rect_at(rects, place), pass, row);
     }
     pass
 }

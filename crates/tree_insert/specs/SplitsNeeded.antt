@@ -3,7 +3,7 @@
 --     SomeChain    what the count of a chain asks
 --     Countable    what the count of the splits asks
 --     needed_of, SplitsTold what it tells
-use Rattle.std.specs.Prelude.{◌≡◌, List, true, cond, ℕ, ◌≤◌, ℤ, length, leb}
+use Rattle.std.specs.Prelude.{◌≡◌, List, Option, Some, None, true, cond, ℕ, ◌≤◌, ℤ, length, leb}
 use Rattle.geometry.specs.declared.aabb.AABB.{AABB}
 use Rattle.geometry.specs.declared.bounds.Bounds.{Bounds}
 use Rattle.geometry.specs.declared.settings.Settings.{Settings}
@@ -18,8 +18,6 @@ use Rattle.model.specs.Trees.{Placed, leaf}
 use Rattle.model.specs.Insert.{split_count}
 use Rattle.memory.specs.declared.node.Node.{Node}
 use Rattle.tree.specs.Chains.{ChainStands}
-use Rattle.tree_insert.specs.declared.needed.Needed.{Needed}
-use Rattle.tree_insert.specs.declared.needed.Needed.TheVariants.{Splits, TooMany}
 use Rattle.tree_insert.specs.FreeGroups.{FreeIn}
 
 abbrev pub within : Bounds → Placed → ℕ
@@ -37,12 +35,12 @@ pub record Countable (s : Settings) (dots : List ℕ) (rects : List ℤ) (node :
   pub dots_fit : All (λ d. acceptable_dot s d.dot ≡ true) chain
   pub counted : node.count ≡ length chain
 
--- so many splits, or too many for so many groups
-abbrev pub needed_of : ℕ → ℕ → Needed
-needed_of splits groups = cond (leb splits groups) (Splits splits) TooMany
+-- so many splits, where there are as many groups
+abbrev pub needed_of : ℕ → ℕ → Option ℕ
+needed_of splits groups = cond (leb splits groups) (Some splits) None
 
 -- the splits of every leaf with that chain, beside every list of free groups from that head
-abbrev pub SplitsTold : Settings → List ℕ → List ℕ → List ℤ → Node → NodeData → AABB → ℕ → Needed → Type 0
+abbrev pub SplitsTold : Settings → List ℕ → List ℕ → List ℤ → Node → NodeData → AABB → ℕ → Option ℕ → Type 0
 SplitsTold s nodes dots rects node n r head needed =
     (k : Countable s dots rects node n) (levels : ℕ) → levels_left s n ≤ levels → (free : List ℕ) → FreeIn nodes head free
     → needed ≡ needed_of (split_count s levels n r (leaf k.chain)) (length free)

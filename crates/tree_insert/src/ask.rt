@@ -3,22 +3,25 @@ ghost use Rattle.model.specs.Tickets.{ask_rule};
 ghost use Rattle.model.specs.Answers.{ask_reply};
 ghost use Rattle.tree.specs.Operations.{IsTree, CarriedOut};
 
-use crate::landing::{Landing, land};
-use model::answers::{AskAnswer, Asked};
+use crate::landing::land;
+use model::answers::Asked;
+use model::refusal::Refusal;
 use model::{Dot, State, Ticket};
 
 // The refusal of the insert, or its splits and the ticket.
-pub fn ask_dot(state: State, nodes: &[u32], dots: &[u32], rects: &[i32], dot: Dot) -> AskAnswer
+pub fn ask_dot(
+    state: State,
+    nodes: &[u32],
+    dots: &[u32],
+    rects: &[i32],
+    dot: Dot,
+) -> Result<Asked, Refusal>
     requires { IsTree state nodes.now dots.now rects.now }
     ensures { CarriedOut (ask_rule dot) state nodes.now dots.now rects.now state
         nodes.now dots.now rects.now (ask_reply result) }
 {
     let changes = state.changes;
-    match land(state, nodes, dots, rects, dot) {
-        Landing::Refused(refusal) => AskAnswer::Refused(refusal),
-        Landing::At(_, splits) => {
-            let ticket = Ticket { dot, changes };
-            AskAnswer::Told(Asked { splits, ticket })
-        }
-    }
+    let splits = land(state, nodes, dots, rects, dot)?.splits;
+    let ticket = Ticket { dot, changes };
+    Ok(Asked { splits, ticket })
 }

@@ -6,7 +6,7 @@ ghost use Rattle.model.specs.Shapes.{Shape, inserted};
 ghost use Rattle.model.specs.Layout.{world, Holds};
 ghost use Rattle.model.specs.Calls.{insert_rule};
 ghost use Rattle.model.specs.Tickets.{place_rule};
-ghost use Rattle.model.specs.Answers.{insert_state, insert_reply};
+ghost use Rattle.model.specs.Answers.{change_state, change_reply};
 ghost use Rattle.tree.specs.Operations.{IsTree, CarriedOut};
 ghost use Rattle.tree_insert.specs.Push.{CanPush, pushed_nodes, pushed_dots, pushed_rects};
 ghost use Rattle.tree_insert.specs.InsertAt.{Starts, CanInsert};
@@ -16,10 +16,11 @@ mod landing;
 pub mod needed;
 mod split;
 
-use crate::landing::{Landing, land};
+use crate::landing::land;
 use crate::split::{push_place, split_down};
 use memory::places::{next_at, set_dot};
-use model::answers::InsertAnswer;
+use model::answers::Changed;
+use model::refusal::Refusal;
 use model::{Dot, State, Ticket};
 use tree::find::Leaf;
 
@@ -70,18 +71,18 @@ pub fn insert_dot(
     dots: &mut [u32],
     rects: &mut [i32],
     dot: Dot,
-) -> InsertAnswer
+) -> Result<Changed, Refusal>
     requires { IsTree state nodes.old dots.old rects.old }
-    ensures { CarriedOut (insert_rule dot) state nodes.old dots.old rects.old (insert_state state result)
-        nodes.new dots.new rects.new (insert_reply result) }
+    ensures { CarriedOut (insert_rule dot) state nodes.old dots.old rects.old (change_state state result)
+        nodes.new dots.new rects.new (change_reply result) }
 {
-    match land(state, nodes, dots, rects, dot) {
-        Landing::Refused(refusal) => InsertAnswer::Refused(refusal),
-        Landing::At(leaf, splits) => InsertAnswer::Splits(
-            splits,
-            insert_at(state, nodes, dots, rects, dot, leaf, splits),
-        ),
-    }
+    let landing = land(state, nodes, dots, rects, dot)?;
+    let splits = landing.splits;
+    let after = insert_at(state, nodes, dots, rects, dot, landing.leaf, splits);
+    Ok(Changed {
+        state: after,
+        number: splits,
+    })
 }
 
 // Inserts the dot of a ticket (§21.4): refusal 15 comes before those of the insert.
@@ -91,13 +92,13 @@ pub fn place_dot(
     dots: &mut [u32],
     rects: &mut [i32],
     ticket: Ticket,
-) -> InsertAnswer
+) -> Result<Changed, Refusal>
     requires { IsTree state nodes.old dots.old rects.old }
-    ensures { CarriedOut (place_rule ticket) state nodes.old dots.old rects.old (insert_state state result)
-        nodes.new dots.new rects.new (insert_reply result) }
+    ensures { CarriedOut (place_rule ticket) state nodes.old dots.old rects.old (change_state state result)
+        nodes.new dots.new rects.new (change_reply result) }
 {
     if ticket.changes != state.changes {
-        return InsertAnswer::Refused(15);
+        return Err(Refusal::StaleTicket);
     }
     let dot = ticket.dot;
     insert_dot(state, nodes, dots, rects, dot)

@@ -11,8 +11,9 @@ use geometry::aabb::AABB;
 use geometry::bounds::Bounds;
 use geometry::node_data::NodeData;
 use geometry::settings::Settings;
+use memory::chain::Chain;
 use memory::node::{Node, node_at};
-use memory::places::{next_at, rect_at};
+use memory::places::rect_at;
 use model::State;
 
 // Whether a leaf with so many dots is full and may split.
@@ -29,29 +30,16 @@ pub fn count_within(dots: &[u32], rects: &[i32], chain: Node, bounds: Bounds) ->
     ensures { (ds : List Placed) → ChainStands dots.now rects.now chain.first chain.count ds
         → result ≡ sum_over (within bounds) ds }
 {
-    let mut at = chain.first;
-    let mut left = chain.count;
     let mut count: u32 = 0;
-    while left > 0 {
-        let place = at as usize;
-        let rect = rect_at(rects, place);
-        if bounds.holds(rect) {
+    for place in Chain::new(dots, chain) {
+        if bounds.holds(rect_at(rects, place)) {
             count += 1;
         }
-        at = next_at(dots, place);
-        left -= 1;
     }
     count
 }
 
-// What an insert needs: so many splits, or too many for the free groups.
-#[derive(Clone, Copy)]
-pub enum Needed {
-    Splits(u32),
-    TooMany,
-}
-
-// The splits that the insert of a rectangle at a leaf makes with groups enough; where a split finds no free group, no more are counted.
+// The splits that the insert of a rectangle at a leaf makes, where there is a free group for each; none where a split finds no free group.
 // A dot stays on the way as long as it lies within the bounds of the node reached.
 pub fn splits_needed(
     state: State,
@@ -61,7 +49,7 @@ pub fn splits_needed(
     chain: Node,
     node_data: NodeData,
     rect: AABB,
-) -> Needed
+) -> Option<u32>
     requires { Countable state.settings dots.now rects.now chain node_data × SomeFree nodes.now state.free_group }
     ensures { SplitsTold state.settings nodes.now dots.now rects.now chain node_data rect
         state.free_group result }
@@ -74,7 +62,7 @@ pub fn splits_needed(
     let mut splits: u32 = 0;
     'descent: while must_split(settings, reached, count) {
         if group == Node::NONE {
-            return Needed::TooMany;
+            return None;
         }
         group = node_at(nodes, group as usize).first;
         let cell = reached.cell;
@@ -84,5 +72,5 @@ pub fn splits_needed(
         count = count_within(dots, rects, chain, bounds);
         splits += 1;
     }
-    Needed::Splits(splits)
+    Some(splits)
 }

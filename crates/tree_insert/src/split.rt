@@ -67,14 +67,12 @@ fn deal_chain(
 {
     let first = group as usize;
     let mut at = chain.first;
-    let mut left = chain.count;
-    while left > 0 {
+    for _ in 0..chain.count {
         let place = at as usize;
         let next = next_at(dots, place);
         let child = cell.route(rect_at(rects, place)) as usize;
         push_place(nodes, dots, first + child, at);
         at = next;
-        left -= 1;
     }
 }
 
@@ -120,15 +118,13 @@ pub fn split_down(
     let mut node = leaf.node;
     let mut node_data = leaf.node_data;
     let mut head = group;
-    let mut rest = splits;
-    while rest > 0 {
+    for _ in 0..splits {
         let cell = node_data.cell;
         let next = split_leaf(nodes, dots, rects, node, cell, head);
         let child = cell.route(rect);
         node = head as usize + child as usize;
         node_data = node_data.child(child);
         head = next;
-        rest -= 1;
     }
     Reached { node, group: head }
 }

@@ -18,7 +18,7 @@ use Rattle.model.specs.Layout.{world, Holds}
 use Rattle.model.specs.Calls.{largest_count}
 use Rattle.model.specs.Laying.{laid}
 use Rattle.model.specs.Patch.{patch_fits, unit_rect, has_dot, rects_at, numbered, patch_dots, PatchGoes}
-use Rattle.tree_patch.specs.declared.lay.Laid.{Laid}
+use Rattle.model.specs.declared.answers.Changed.{Changed}
 
 -- those of the rows above, and those to the left
 unfoldable pub rects_before : Patch → ℕ → ℕ → List AABB
@@ -46,11 +46,11 @@ pub record DotFits (p : Patch) (column row number : ℕ) : Type 0 where
   pub bottom : SFits w32 ((p.y +ℤ pos row) +ℤ pos 1)
   pub id : p.first_id + number ≤ 4294967295
 
-abbrev pub none_laid : State → Laid
+abbrev pub none_laid : State → Changed
 none_laid s = record { state = s; number = 0 }
 
 -- from the shape x on, in which the patch can be laid and its dots counted
-pub record Progress (p : Patch) (column row : ℕ) (l : Laid) (nodes dots : List ℕ) (rects : List ℤ) (marks : List ℕ) (x : Shape) : Type 0 where
+pub record Progress (p : Patch) (column row : ℕ) (l : Changed) (nodes dots : List ℕ) (rects : List ℤ) (marks : List ℕ) (x : Shape) : Type 0 where
   pub fits : patch_fits p ≡ true
   pub valid : Valid x
   pub goes : PatchGoes p x
@@ -58,11 +58,11 @@ pub record Progress (p : Patch) (column row : ℕ) (l : Laid) (nodes dots : List
   pub holds : Holds (world l.state nodes dots rects marks) (laid (dots_before p column row) x)
   pub number : l.number ≡ length (rects_before p column row)
 
-pub record SomeProgress (p : Patch) (column row : ℕ) (l : Laid) (nodes dots : List ℕ) (rects : List ℤ) : Type 0 where
+pub record SomeProgress (p : Patch) (column row : ℕ) (l : Changed) (nodes dots : List ℕ) (rects : List ℤ) : Type 0 where
   pub marks : List ℕ
   pub shape : Shape
   pub progress : Progress p column row l nodes dots rects marks shape
 
-pub record Proceeds (p : Patch) (column row : ℕ) (l : Laid) (nodes dots : List ℕ) (rects : List ℤ) (column' row' : ℕ) (l' : Laid)
+pub record Proceeds (p : Patch) (column row : ℕ) (l : Changed) (nodes dots : List ℕ) (rects : List ℤ) (column' row' : ℕ) (l' : Changed)
     (nodes' dots' : List ℕ) (rects' : List ℤ) : Type 0 where
   pub on : (marks : List ℕ) (x : Shape) → Progress p column row l nodes dots rects marks x → Progress p column' row' l' nodes' dots' rects' marks x

@@ -10,13 +10,11 @@ pub fn has_free(nodes: &[u32], group: u32, number: u32) -> bool
     ensures { (free : List ℕ) → FreeIn nodes.now group free → result ≡ leb number (length free) }
 {
     let mut at = group;
-    let mut passed: u32 = 0;
-    while passed < number {
+    for _ in 0..number {
         if at == Node::NONE {
             return false;
         }
         at = node_at(nodes, at as usize).first;
-        passed += 1;
     }
     true
 }

@@ -6,19 +6,12 @@ ghost use Rattle.std.proofs.Common.{SFits};
 ghost use Rattle.tree_patch.specs.Laid.{DotAt, patch_dot, DotFits, none_laid, SomeProgress, Proceeds};
 
 use geometry::aabb::AABB;
-use model::answers::InsertAnswer;
+use model::answers::Changed;
 use model::patch::Patch;
 use model::{Dot, State};
 use tint::table::THRESHOLDS;
 use tint::thresholds::next_dot;
 use tree_insert::insert_dot;
-
-// What has been laid: how many dots, and the state after them.
-#[derive(Clone, Copy)]
-pub struct Laid {
-    pub state: State,
-    pub number: u32,
-}
 
 // A corner so many units along.
 fn along(first: i32, units: u32) -> i32
@@ -50,14 +43,14 @@ fn dot_at(patch: Patch, column: u32, row: u32, number: u32) -> Dot
 
 // Lays the dot at a column and a row. Its insert is not refused.
 fn lay_dot(
-    laid: Laid,
+    laid: Changed,
     nodes: &mut [u32],
     dots: &mut [u32],
     rects: &mut [i32],
     patch: Patch,
     column: u32,
     row: u32,
-) -> Laid
+) -> Changed
     requires { SomeProgress patch column row laid nodes.old dots.old rects.old × DotAt patch column row }
     ensures { Proceeds patch column row laid nodes.old dots.old rects.old (suc column) row
         result nodes.new dots.new rects.new }
@@ -66,9 +59,9 @@ fn lay_dot(
     let number = laid.number;
     let dot = dot_at(patch, column, row, number);
     match insert_dot(state, nodes, dots, rects, dot) {
-        InsertAnswer::Refused(_) => laid,
-        InsertAnswer::Splits(_, next) => Laid {
-            state: state.followed_by(next),
+        Err(_) => laid,
+        Ok(inserted) => Changed {
+            state: state.followed_by(inserted.state),
             number: number + 1,
         },
     }
@@ -76,14 +69,14 @@ fn lay_dot(
 
 // Lays the dots of a row, from one to the next.
 fn lay_row(
-    before: Laid,
+    before: Changed,
     nodes: &mut [u32],
     dots: &mut [u32],
     rects: &mut [i32],
     table: &[u8; 256],
     patch: Patch,
     row: u32,
-) -> Laid
+) -> Changed
     requires { SomeProgress patch 0 row before nodes.old dots.old rects.old × (row < 16 * patch.rows) × (table.now ≡ thresholds) }
     ensures { Proceeds patch 0 row before nodes.old dots.old rects.old 0 (suc row)
         result nodes.new dots.new rects.new }
@@ -105,18 +98,16 @@ pub fn lay_rows(
     dots: &mut [u32],
     rects: &mut [i32],
     patch: Patch,
-) -> Laid
+) -> Changed
     requires { SomeProgress patch 0 0 (none_laid state) nodes.old dots.old rects.old }
     ensures { Proceeds patch 0 0 (none_laid state) nodes.old dots.old rects.old 0 (16 * patch.rows)
         result nodes.new dots.new rects.new }
 {
     let table = THRESHOLDS;
     let height = 16 * patch.rows;
-    let mut laid = Laid { state, number: 0 };
-    let mut row: u32 = 0;
-    while row < height {
+    let mut laid = Changed { state, number: 0 };
+    for row in 0..height {
         laid = lay_row(laid, nodes, dots, rects, &table, patch, row);
-        row += 1;
     }
     laid
 }

@@ -3,7 +3,7 @@
 
 ghost use Rattle.std.specs.Prelude.{◌≡◌, true};
 ghost use Rattle.model.specs.Patch.{patch_fits, patch_rule};
-ghost use Rattle.model.specs.Answers.{patch_state, patch_reply};
+ghost use Rattle.model.specs.Answers.{change_state, change_reply};
 ghost use Rattle.tree.specs.Operations.{IsTree, CarriedOut};
 ghost use Rattle.tree_patch.specs.Goes.{GoesTold};
 
@@ -16,10 +16,11 @@ use crate::lay::lay_rows;
 use crate::splits::patch_splits;
 use memory::lengths::places_in;
 use model::State;
-use model::answers::PatchAnswer;
+use model::answers::Changed;
 use model::patch::Patch;
+use model::refusal::Refusal;
 use tint::count::{dots_number, dots_within, ids_fit, unit_bounds};
-use tint::sums::fill_sums;
+use tint::sums::{SUMS, fill_sums};
 
 // Whether no dot of the patch would be refused in its turn. Nothing is stored: the splits of all dots together do not depend on their order.
 fn can_lay(state: State, nodes: &[u32], dots: &[u32], rects: &[i32], patch: Patch) -> bool
@@ -35,7 +36,7 @@ fn can_lay(state: State, nodes: &[u32], dots: &[u32], rects: &[i32], patch: Patc
     if places_in(dots) < live {
         return false;
     }
-    let mut sums = [0u32; 289];
+    let mut sums = [0; SUMS];
     fill_sums(&mut sums, patch.tint);
     let settings = state.settings;
     if dots_within(patch, &sums, unit_bounds(settings)) < number {
@@ -52,18 +53,16 @@ pub fn lay_patch(
     dots: &mut [u32],
     rects: &mut [i32],
     patch: Patch,
-) -> PatchAnswer
+) -> Result<Changed, Refusal>
     requires { IsTree state nodes.old dots.old rects.old × (patch_fits patch ≡ true) }
-    ensures { CarriedOut (patch_rule patch) state nodes.old dots.old rects.old (patch_state state result)
-        nodes.new dots.new rects.new (patch_reply result) }
+    ensures { CarriedOut (patch_rule patch) state nodes.old dots.old rects.old (change_state state result)
+        nodes.new dots.new rects.new (change_reply result) }
 {
     if !can_lay(state, nodes, dots, rects, patch) {
-        return PatchAnswer::Refused(14);
+        return Err(Refusal::PatchTooLarge);
     }
     if !state.can_count(dots_number(patch) as u64) {
-        return PatchAnswer::Refused(16);
+        return Err(Refusal::TooManyChanges);
     }
-    let laid = lay_rows(state, nodes, dots, rects, patch);
-    let after = laid.state;
-    PatchAnswer::Laid(laid.number, after)
+    Ok(lay_rows(state, nodes, dots, rects, patch))
 }

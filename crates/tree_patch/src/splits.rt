@@ -17,6 +17,7 @@ use memory::node::{Node, node_at};
 use model::State;
 use model::patch::Patch;
 use tint::count::dots_within;
+use tint::sums::SUMS;
 use tree_insert::needed::count_within;
 
 // A cell that dots may fill: its node, or that of the leaf that it would lie below, and what a walk knows there.
@@ -86,7 +87,7 @@ fn cell_splits(
     rects: &[i32],
     cell: Cell,
     patch: Patch,
-    sums: &[u32; 289],
+    sums: &[u32; SUMS],
 ) -> u32
     requires { CellCount settings nodes.now dots.now rects.now cell patch sums.now }
     ensures { CellCounted settings nodes.now dots.now rects.now cell patch result }
@@ -97,15 +98,15 @@ fn cell_splits(
     }
     let words = node_at(nodes, cell.node);
     if words.is_branch() {
-        return group_splits(settings, nodes, dots, rects, cell, 4, patch, sums);
+        return group_splits(settings, nodes, dots, rects, cell, patch, sums);
     }
     if !is_overfull(settings, dots, rects, words, cell, laid) {
         return 0;
     }
-    1 + group_splits(settings, nodes, dots, rects, cell, 4, patch, sums)
+    1 + group_splits(settings, nodes, dots, rects, cell, patch, sums)
 }
 
-// Those at the last `left` children and below them.
+// Those at the children but child 0, and below them.
 #[cycle(cell_splits_group_splits)]
 fn group_splits(
     settings: Settings,
@@ -113,19 +114,18 @@ fn group_splits(
     dots: &[u32],
     rects: &[i32],
     cell: Cell,
-    left: u32,
     patch: Patch,
-    sums: &[u32; 289],
+    sums: &[u32; SUMS],
 ) -> u32
-    requires { GroupCount settings nodes.now dots.now rects.now cell left patch sums.now }
-    ensures { GroupCounted settings nodes.now dots.now rects.now cell left patch result }
+    requires { GroupCount settings nodes.now dots.now rects.now cell 4 patch sums.now }
+    ensures { GroupCounted settings nodes.now dots.now rects.now cell 4 patch result }
 {
-    if left == 0 {
-        return 0;
+    let mut splits = 0;
+    for child in 1..5 {
+        let below = child_cell(nodes, cell, child);
+        splits += cell_splits(settings, nodes, dots, rects, below, patch, sums);
     }
-    let below = child_cell(nodes, cell, 5 - left);
-    let here = cell_splits(settings, nodes, dots, rects, below, patch, sums);
-    here + group_splits(settings, nodes, dots, rects, cell, left - 1, patch, sums)
+    splits
 }
 
 // The splits that all dots of a patch make together, where insert accepts their rectangles.
@@ -135,7 +135,7 @@ pub fn patch_splits(
     dots: &[u32],
     rects: &[i32],
     patch: Patch,
-    sums: &[u32; 289],
+    sums: &[u32; SUMS],
 ) -> u32
     requires { IsTree state nodes.now dots.now rects.now × (patch_fits patch ≡ true) × TileSums patch.tint sums.now
         × AllAcceptable state.settings patch }

@@ -1,5 +1,4 @@
 -- Laws of the reading calls.
---     Rows         the written row: its length, two lists of words, room for all
 --     Found        one walk after another; no more is found than there is
 --     Chains       the loop over a chain
 --     Nodes        a node: its chain, or its group
@@ -8,7 +7,6 @@
 --     LeafNodes    over the leaves: a node, its own numbers or its group
 --     LeafGroups   over the leaves: a group, child by child
 --     Leaves       over the leaves of a whole tree, and the call's answer
-pub mod Rows
 pub mod Found
 pub mod Chains
 pub mod Nodes

@@ -9,11 +9,11 @@ use Rattle.model.specs.Shapes.{Shape, listed, leaves}
 use Rattle.model.specs.Layout.{world, Holds}
 use Rattle.model.specs.declared.answers.Found.{Found}
 use Rattle.model.specs.Calls.{Reply, exit, carried_out, found_in, query_rule, leaves_rule}
-use Rattle.tree_query.specs.Rows.{kept_all}
+use Rattle.std.proofs.lemmas.List.Edits.{sets}
 
-unfoldable pub Met : State → Window → List ℕ → List ℕ → List ℤ → ℕ → List ℕ → List ℕ → Found → Type 0
-Met s q nodes dots rects room row row' r =
-    (marks : List ℕ) (x : Shape) → Holds (world s nodes dots rects marks) x → (r ≡ found_in q x) × (row' ≡ kept_all room row 0 (listed q x))
+unfoldable pub Met : State → Window → List ℕ → List ℕ → List ℤ → List ℕ → List ℕ → Found → Type 0
+Met s q nodes dots rects row row' r =
+    (marks : List ℕ) (x : Shape) → Holds (world s nodes dots rects marks) x → (r ≡ found_in q x) × (row' ≡ sets row 0 (listed q x))
 
 unfoldable pub Counted : State → Window → List ℕ → List ℕ → List ℤ → Found → Type 0
 Counted s q nodes dots rects r = (marks : List ℕ) (x : Shape) → Holds (world s nodes dots rects marks) x → r ≡ found_in q x
@@ -25,10 +25,10 @@ Queried s q nodes dots rects row row' reply =
 
 -- ---- leaves
 
-unfoldable pub LeavesMet : State → List ℕ → ℕ → List ℤ → List ℤ → ℕ → Type 0
-LeavesMet s nodes room row row' r =
+unfoldable pub LeavesMet : State → List ℕ → List ℤ → List ℤ → ℕ → Type 0
+LeavesMet s nodes row row' r =
     (dots : List ℕ) (rects : List ℤ) (marks : List ℕ) (x : Shape) → Holds (world s nodes dots rects marks) x
-    → (r ≡ length (leaves x)) × (row' ≡ kept_all room row 0 (leaves x))
+    → (r ≡ length (leaves x)) × (row' ≡ sets row 0 (leaves x))
 
 unfoldable pub LeavesListed : State → List ℕ → List ℤ → List ℤ → Reply ℕ → Type 0
 LeavesListed s nodes row row' reply =

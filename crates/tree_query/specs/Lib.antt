@@ -1,9 +1,7 @@
 -- What the walks of a query (§8) and over the leaves (§9) ask and leave.
---     Rows         words written to a row of which only a part may be written
 --     Walks        the query's walk of a chain, a node and a group
 --     Leaves       the walk over the leaves of a node and a group
 --     Answers      what the walk of the whole tree leaves, and what a call leaves
-pub mod Rows
 pub mod Walks
 pub mod Leaves
 pub mod Answers

@@ -3,4 +3,5 @@
 
 pub mod leaves;
 pub mod query;
+mod rows;
 mod walk;

@@ -1,15 +1,15 @@
 // Query: the ids of the dots that a window asks for, and the nodes opened.
-ghost use Rattle.std.specs.Prelude.{◌≤◌, length};
 ghost use Rattle.model.specs.Answers.{query_reply};
 ghost use Rattle.tree.specs.Operations.{IsTree};
 ghost use Rattle.tree_query.specs.Answers.{Met, Counted, Queried};
 
 use crate::walk::walk_node;
 use geometry::centered_aabb::CenteredAABB;
-use model::answers::{Found, QueryAnswer};
+use model::answers::Found;
+use model::refusal::Refusal;
 use model::{State, Window};
 
-// Walks the whole tree; ids are written to the first `room` words of the row.
+// Walks the whole tree; ids are written as far as the row goes.
 fn list_hits(
     state: State,
     nodes: &[u32],
@@ -17,16 +17,15 @@ fn list_hits(
     rects: &[i32],
     query: Window,
     row: &mut [u32],
-    room: usize,
 ) -> Found
-    requires { IsTree state nodes.now dots.now rects.now × (room ≤ length row.old) }
-    ensures { Met state query nodes.now dots.now rects.now room row.old row.new result }
+    requires { IsTree state nodes.now dots.now rects.now }
+    ensures { Met state query nodes.now dots.now rects.now row.old row.new result }
 {
     let settings = state.settings;
     let cell = CenteredAABB::root(settings);
     let levels = settings.deepest();
     let found = Found { hits: 0, opened: 0 };
-    walk_node(nodes, dots, rects, 0, levels, cell, query, found, row, room)
+    walk_node(nodes, dots, rects, 0, levels, cell, query, found, row)
 }
 
 // How many dots the query lists, and the nodes opened.
@@ -34,8 +33,7 @@ pub fn count_hits(state: State, nodes: &[u32], dots: &[u32], rects: &[i32], quer
     requires { IsTree state nodes.now dots.now rects.now }
     ensures { Counted state query nodes.now dots.now rects.now result }
 {
-    let mut none = [0u32; 1];
-    list_hits(state, nodes, dots, rects, query, &mut none, 0)
+    list_hits(state, nodes, dots, rects, query, &mut [])
 }
 
 // Lists the ids, where they fit the row. Where it has a word for each live dot, one walk serves.
@@ -46,7 +44,7 @@ pub fn query_row(
     rects: &[i32],
     query: Window,
     row: &mut [u32],
-) -> QueryAnswer
+) -> Result<Found, Refusal>
     requires { IsTree state nodes.now dots.now rects.now }
     ensures { Queried state query nodes.now dots.now rects.now row.old row.new (query_reply result) }
 {
@@ -54,8 +52,8 @@ pub fn query_row(
     if room < state.live as usize {
         let hits = count_hits(state, nodes, dots, rects, query).hits;
         if room < hits as usize {
-            return QueryAnswer::TooMany(hits);
+            return Err(Refusal::ShortRow(hits));
         }
     }
-    QueryAnswer::Listed(list_hits(state, nodes, dots, rects, query, row, room))
+    Ok(list_hits(state, nodes, dots, rects, query, row))
 }

@@ -1,9 +1,8 @@
 // Remove without the check: the first dot with an id in the leaf that a rectangle routes to goes, and its place is free.
 #![tactic(auto)]
 
-ghost use Rattle.std.specs.Prelude.{◌≡◌, List, ◌≤◌};
+ghost use Rattle.std.specs.Prelude.{◌≡◌, List, None, IfSome, ◌≤◌};
 ghost use Rattle.model.specs.Dots.{zero_dot};
-ghost use Rattle.model.specs.Layout.{none};
 ghost use Rattle.model.specs.Trees.{Placed};
 ghost use Rattle.model.specs.Calls.{remove_rule};
 ghost use Rattle.model.specs.Answers.{yes_no_state, yes_no_reply};
@@ -12,72 +11,59 @@ ghost use Rattle.tree.specs.Operations.{IsTree, CarriedOut};
 ghost use Rattle.tree_remove.specs.Search.{Searchable, hit_in, Linked, unlinked_node, unlinked_dots};
 
 use geometry::aabb::AABB;
+use memory::chain::Chain;
 use memory::node::{Node, node_at, set_node};
 use memory::places::{id_at, next_at, set_dot, set_next};
-use model::answers::YesNoAnswer;
+use model::refusal::Refusal;
 use model::{Dot, State};
 use tree::find::find_leaf;
 
-// Where a dot stands in its chain, and the place before it; no place is none.
+// Where a dot stands in its chain: its place, and the place before it, which the first has none of.
 #[derive(Clone, Copy)]
 pub struct Hit {
-    pub place: u32,
-    pub previous: u32,
+    pub place: usize,
+    pub previous: Option<usize>,
 }
 
 // The first dot with an id in a leaf's chain.
-fn find_dot(dots: &[u32], leaf: Node, id: u32) -> Hit
+fn find_dot(dots: &[u32], leaf: Node, id: u32) -> Option<Hit>
     requires { Searchable dots.now leaf }
-    ensures { (chain : List Placed) → Linked dots.now leaf.first leaf.count chain → result ≡ hit_in id none chain }
+    ensures { (chain : List Placed) → Linked dots.now leaf.first leaf.count chain → result ≡ hit_in id None chain }
 {
-    let mut at = leaf.first;
-    let mut previous = Node::NONE;
-    let mut left = leaf.count;
-    let hit = loop {
-        if left == 0 {
-            break Hit {
-                place: Node::NONE,
-                previous,
-            };
+    let mut places = Chain::new(dots, leaf);
+    let mut previous = None;
+    'search: loop {
+        match places.next() {
+            None => break None,
+            Some(place) if id_at(dots, place) == id => break Some(Hit { place, previous }),
+            Some(place) => previous = Some(place),
         }
-        let place = at as usize;
-        if id_at(dots, place) == id {
-            break Hit {
-                place: at,
-                previous,
-            };
-        }
-        previous = at;
-        at = next_at(dots, place);
-        left -= 1;
-    };
-    hit
+    }
 }
 
 // Takes the dot that was found out of its leaf's chain.
 fn unlink(nodes: &mut [u32], dots: &mut [u32], node: usize, leaf: Node, hit: Hit)
     requires { HasNode nodes.old node × (1 ≤ leaf.count) × HasPlace dots.old hit.place
-        × (¬ (hit.previous ≡ none) → HasPlace dots.old hit.previous) }
+        × IfSome hit.previous (HasPlace dots.old) }
     ensures { (nodes.new ≡ set_node_at nodes.old node (unlinked_node dots.old leaf hit))
         × (dots.new ≡ unlinked_dots dots.old hit) }
 {
-    let place = hit.place as usize;
-    let next = next_at(dots, place);
+    let next = next_at(dots, hit.place);
     let count = leaf.count - 1;
-    if hit.previous == Node::NONE {
-        set_node(nodes, node, Node { first: next, count });
-        return;
+    match hit.previous {
+        None => set_node(nodes, node, Node { first: next, count }),
+        Some(previous) => {
+            set_next(dots, previous, next);
+            set_node(
+                nodes,
+                node,
+                Node {
+                    first: leaf.first,
+                    count,
+                },
+            );
+        }
     }
-    let previous = hit.previous as usize;
-    set_next(dots, previous, next);
-    set_node(
-        nodes,
-        node,
-        Node {
-            first: leaf.first,
-            count,
-        },
-    );
 }
 
 // Frees a place: it heads the free places.
@@ -98,7 +84,7 @@ pub fn remove_dot(
     rects: &mut [i32],
     id: u32,
     rect: AABB,
-) -> YesNoAnswer
+) -> Result<Option<State>, Refusal>
     requires { IsTree state nodes.old dots.old rects.old }
     ensures { CarriedOut (remove_rule id rect) state nodes.old dots.old rects.old (yes_no_state state result)
         nodes.new dots.new rects.new (yes_no_reply result) }
@@ -106,15 +92,15 @@ pub fn remove_dot(
     let settings = state.settings;
     let node = find_leaf(settings, nodes, rect).node;
     let leaf = node_at(nodes, node);
-    let hit = find_dot(dots, leaf, id);
-    if hit.place == Node::NONE {
-        return YesNoAnswer::No;
-    }
+    let Some(hit) = find_dot(dots, leaf, id) else {
+        return Ok(None);
+    };
     if !state.can_count(1) {
-        return YesNoAnswer::Refused(16);
+        return Err(Refusal::TooManyChanges);
     }
     let place = hit.place;
     unlink(nodes, dots, node, leaf, hit);
-    free_place(dots, rects, place as usize, state.free_place);
-    YesNoAnswer::Yes(state.changed(state.free_group, place, state.live - 1))
+    free_place(dots, rects, place, state.free_place);
+    let next = state.changed(state.free_group, place as u32, state.live - 1);
+    Ok(Some(next))
 }

@@ -1,3 +1,3 @@
 -- Laws of numbers as words.
---     Words        both ways, and what the code's steps fit in
+--     Words        both ways
 pub mod Words

@@ -3,6 +3,7 @@
 --     ints             the rules by which `omega (arith, ints)` reads a test, an order or a range of integers, and proves one
 --     sum, dif, half-lo, half-hi    of a sum, a difference, a half in the goal: into the list, at its arguments: `omega (arith, ints, sum a b)`
 --     max-above, min-below    of the larger and the smaller, likewise
+--     max-is, min-is    std's `max` and `min` are these
 --     known, got       what is known of a signed number that fits its width, and of a call's result
 --     fits32, fits64, wide, sum-wide, dif-wide, mid_fits, half-fits    what fits a width
 --     of_z-eq           equality of numbers is that of their bits
@@ -12,7 +13,7 @@ use Rattle.std.proofs.Common.{sym, ap, ◌∙◌, subst, inl, inr, arith, ltb→
 use Rattle.std.proofs.Math.IntN.{sub_ℕ}
 use Rattle.std.specs.Int.Signed.{lt_z, le_z, shr_z, mag, mag_shr}
 use Rattle.std.proofs.lemmas.Bool.{eqb-false, lt-leb}
-use Rattle.std.specs.Int.{Width, w32, w64}
+use Rattle.std.specs.Int.{Width, w32, w64, int_max, int_min}
 use mir.Val.{SFits, to_z, of_z, hbits}
 use mir.ValLaws.{sfits_le}
 use Rattle.arithmetic.specs.Ints.{eq_z, max_z, min_z}
@@ -250,6 +251,21 @@ min-below a b = go (lt_z b a) refl
     go : (t : Bool) → lt_z b a ≡ t → (cond t b a ≤ℤ a) × (cond t b a ≤ℤ b)
     go true e = omega (arith, ints)
     go false e = omega (arith, ints)
+
+-- std's `a.max(b)` and `a.min(b)`
+pub max-is : (a b : ℤ) → int_max a b ≡ max_z a b
+unfolding max_z
+max-is a b = go (lt_z b a) (lt_z a b) refl refl
+  where
+    go : (s t : Bool) → lt_z b a ≡ s → lt_z a b ≡ t → cond s a b ≡ cond t b a
+    go true true e f = absurd (omega (arith, ints))
+    go true false e f = refl
+    go false true e f = refl
+    go false false e f = nat_eq b a (omega (arith, ints))
+
+pub min-is : (a b : ℤ) → int_min a b ≡ min_z a b
+unfolding min_z
+min-is a b = refl
 
 -- a test of tests, taken apart
 pub and_t : (s t : Bool) → s && t ≡ true → (s ≡ true) × (t ≡ true)

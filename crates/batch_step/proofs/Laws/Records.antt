@@ -1,59 +1,56 @@
 -- From the single operations to the records of a batch.
---     splits-small, splits-refused, splits-made; said_small, said_refused, said_yes_lem, said_no       an answer as its record leaves it
+--     splits-refused, splits-made; said_refused, said_yes_lem, said_no     an answer as its record leaves it
 --     insert_done, remove_done, cleanup_done       a record by its operation's answer
---     insert-word, remove-word, cleanup-word       the word of a refusal fits
 --     of_kind, other_kind      a record by its kind
 --     stepped      the row with a record's word
-use Rattle.std.specs.Prelude.{◌≡◌, refl, List, [], Bool, true, false, ℕ, ◌≤◌, ℤ, length, replicate, set}
+use Rattle.std.specs.Prelude.{◌≡◌, refl, List, [], Bool, true, false, ℕ, ◌≤◌, ℤ, length, replicate, set, Option, Some, None, Result, Ok, Err}
 use Rattle.std.proofs.Math.Path.{ap}
 use Rattle.std.proofs.Common.{sym, ◌∙◌, subst, subst₂, ⊎_elim, arith}
 use Rattle.geometry.specs.declared.aabb.AABB.{AABB}
 use Rattle.model.specs.declared.Dot.{Dot}
 use Rattle.model.specs.declared.Record.{Record}
 use Rattle.model.specs.declared.State.{State}
-use Rattle.model.specs.declared.answers.InsertAnswer.{InsertAnswer}
-use Rattle.model.specs.declared.answers.InsertAnswer.TheVariants as insert
-use Rattle.model.specs.declared.answers.YesNoAnswer.{YesNoAnswer}
-use Rattle.model.specs.declared.answers.YesNoAnswer.TheVariants as said
+use Rattle.model.specs.declared.Kind.{Kind}
+use Rattle.model.specs.declared.Kind.TheVariants as kind
+use Rattle.model.specs.declared.answers.Changed.{Changed}
+use Rattle.model.specs.declared.refusal.Refusal.{Refusal}
 use Rattle.model.specs.Shapes.{Shape, Valid, removed, found_by, cleaned, cleans}
 use Rattle.model.specs.Layout.{World, world, cleared, layout, Holds, same_settings}
-use Rattle.model.specs.Calls.{Reply, Verdict, refuse, overflow, accept, exit, refusal, carried_out}
+use Rattle.model.specs.Calls.{Reply, refused, too_many, Verdict, refuse, overflow, accept, exit, carried_out}
+use Rattle.model.specs.Refusals.{number_of, refusal_reply}
+use Rattle.model.proofs.Laws.Refusals.{by_number-map}
 use Rattle.model.specs.Calls.{Recorded, recorded, refused_word, yes_no, insert_rule, yes_or_no, remove_rule, cleanup_rule, carry_out}
-use Rattle.model.specs.Answers.{insert_reply, insert_state, yes_no_reply, yes_no_state}
+use Rattle.model.specs.Answers.{change_reply, change_state, yes_no_reply, yes_no_state}
 use Rattle.model.proofs.Laws.Layout.{same-settings, holds-settings}
 use Rattle.model.proofs.Laws.Calls.{counted_cases, insert_cases, world_of_lem, reply_of}
 use Rattle.model.proofs.Laws.Batches.{record-valid, record-settings, insert-record, remove-record, cleanup-record, other_record}
 use Rattle.tree.specs.Operations.{IsTree, CarriedOut}
 use Rattle.tree_cleanup.specs.Answers.{CleanedUp}
-use Rattle.batch_step.specs.declared.Batched.{Batched}
 use Rattle.batch_step.specs.Steps.{record_of, reply_word, RecordCarriedOut, Stepped}
 
 -- ---- an answer, by what the code's match has told of it
 
-module _ (s : State) {a : InsertAnswer} where
-  pub splits-small : {k : ℕ} → a ≡ insert.Refused k → refusal (insert_reply a) ≤ 255 → k ≤ 255
-  splits-small e h = rw e at h
+word-refused : {A : Type 0} (word : A → ℕ) (e : Refusal) → refused_word (number_of e) ≡ reply_word word (refusal_reply e)
+word-refused word e = by_number-map refused_word (λ k. k) (λ n. 8) e ∙ sym (by_number-map (reply_word word) refused too_many e)
 
-  pub splits-refused : {k n : ℕ} → a ≡ insert.Refused k → n ≡ refused_word k
-      → (n ≡ reply_word (λ m. m) (insert_reply a)) × (s ≡ insert_state s a)
-  splits-refused e w = rw e (w, refl)
+module _ (s : State) {a : Result Changed Refusal} where
+  pub splits-refused : {e : Refusal} {n : ℕ} → a ≡ Err e → n ≡ refused_word (number_of e)
+      → (n ≡ reply_word (λ m. m) (change_reply a)) × (s ≡ change_state s a)
+  splits-refused {e} is w = rw is (w ∙ word-refused (λ m. m) e, refl)
 
-  pub splits-made : {k : ℕ} {s' : State} → a ≡ insert.Splits k s' → (k ≡ reply_word (λ m. m) (insert_reply a)) × (s' ≡ insert_state s a)
-  splits-made e = rw e (refl, refl)
+  pub splits-made : {c : Changed} → a ≡ Ok c → (c.number ≡ reply_word (λ m. m) (change_reply a)) × (c.state ≡ change_state s a)
+  splits-made is = rw is (refl, refl)
 
-module _ (s : State) {a : YesNoAnswer} where
-  pub said_small : {k : ℕ} → a ≡ said.Refused k → refusal (yes_no_reply a) ≤ 255 → k ≤ 255
-  said_small e h = rw e at h
-
-  pub said_refused : {k n : ℕ} → a ≡ said.Refused k → n ≡ refused_word k
+module _ (s : State) {a : Result (Option State) Refusal} where
+  pub said_refused : {e : Refusal} {n : ℕ} → a ≡ Err e → n ≡ refused_word (number_of e)
       → (n ≡ reply_word yes_no (yes_no_reply a)) × (s ≡ yes_no_state s a)
-  said_refused e w = rw e (w, refl)
+  said_refused {e} is w = rw is (w ∙ word-refused yes_no e, refl)
 
-  pub said_yes_lem : {s' : State} → a ≡ said.Yes s' → (1 ≡ reply_word yes_no (yes_no_reply a)) × (s' ≡ yes_no_state s a)
-  said_yes_lem e = rw e (refl, refl)
+  pub said_yes_lem : {s' : State} → a ≡ Ok (Some s') → (1 ≡ reply_word yes_no (yes_no_reply a)) × (s' ≡ yes_no_state s a)
+  said_yes_lem is = rw is (refl, refl)
 
-  pub said_no : a ≡ said.No → (0 ≡ reply_word yes_no (yes_no_reply a)) × (s ≡ yes_no_state s a)
-  said_no e = rw e (refl, refl)
+  pub said_no : a ≡ Ok None → (0 ≡ reply_word yes_no (yes_no_reply a)) × (s ≡ yes_no_state s a)
+  said_no is = rw is (refl, refl)
 
 -- ---- a record by its operation
 
@@ -82,45 +79,44 @@ module _ {A : Type 0} (word : A → ℕ) (rule : Shape → Verdict ℕ A) (r : R
       subst₂ (λ (v : State) (m : ℕ). RecordCarriedOut (carry_out r) s nodes dots rects v nodes' dots' rects' m) (sym left.1) (sym left.0) by_rule
 
 module _ {s : State} {nodes dots : List ℕ} {rects : List ℤ} {nodes' dots' : List ℕ} {rects' : List ℤ} {u : State} {n : ℕ} where
-  pub insert_done : (dot : Dot) (a : InsertAnswer) → CarriedOut (insert_rule dot) s nodes dots rects (insert_state s a) nodes' dots' rects' (insert_reply a)
-      → (n ≡ reply_word (λ m. m) (insert_reply a)) × (u ≡ insert_state s a)
-      → RecordCarriedOut (carry_out (record_of 0 dot)) s nodes dots rects u nodes' dots' rects' n
+  pub insert_done : (dot : Dot) (a : Result Changed Refusal) → CarriedOut (insert_rule dot) s nodes dots rects (change_state s a) nodes' dots' rects' (change_reply a)
+      → (n ≡ reply_word (λ m. m) (change_reply a)) × (u ≡ change_state s a)
+      → RecordCarriedOut (carry_out (record_of kind.Insert dot)) s nodes dots rects u nodes' dots' rects' n
   insert_done dot a done left =
-      by_answer (λ m. m) (insert_rule dot) (record_of 0 dot) (λ x. insert-record (record_of 0 dot) x refl) done left
+      by_answer (λ m. m) (insert_rule dot) (record_of kind.Insert dot) (λ x. insert-record (record_of kind.Insert dot) x refl) done left
 
-  pub remove_done : (dot : Dot) (a : YesNoAnswer)
+  pub remove_done : (dot : Dot) (a : Result (Option State) Refusal)
       → CarriedOut (remove_rule dot.id dot.rect) s nodes dots rects (yes_no_state s a) nodes' dots' rects' (yes_no_reply a)
       → (n ≡ reply_word yes_no (yes_no_reply a)) × (u ≡ yes_no_state s a)
-      → RecordCarriedOut (carry_out (record_of 1 dot)) s nodes dots rects u nodes' dots' rects' n
+      → RecordCarriedOut (carry_out (record_of kind.Remove dot)) s nodes dots rects u nodes' dots' rects' n
   remove_done dot a done left =
-      by_answer yes_no (remove_rule dot.id dot.rect) (record_of 1 dot) (λ x. remove-record (record_of 1 dot) x refl) done left
+      by_answer yes_no (remove_rule dot.id dot.rect) (record_of kind.Remove dot) (λ x. remove-record (record_of kind.Remove dot) x refl) done left
 
 -- a cleanup's record may have any dot
 module _ {s : State} {nodes dots : List ℕ} {rects : List ℤ} {nodes' : List ℕ} where
-  pub cleanup_done : {u : State} {n : ℕ} (a : YesNoAnswer) → CleanedUp s nodes nodes' a
+  pub cleanup_done : {u : State} {n : ℕ} (a : Result (Option State) Refusal) → CleanedUp s nodes nodes' a
       → (n ≡ reply_word yes_no (yes_no_reply a)) × (u ≡ yes_no_state s a)
-      → (dot : Dot) → RecordCarriedOut (carry_out (record_of 2 dot)) s nodes dots rects u nodes' dots rects n
+      → (dot : Dot) → RecordCarriedOut (carry_out (record_of kind.Cleanup dot)) s nodes dots rects u nodes' dots rects n
   unfolding CleanedUp
   cleanup_done a done left dot =
-      by_answer yes_no cleanup_rule (record_of 2 dot) (λ x. cleanup-record (record_of 2 dot) x refl) (done dots rects) left
+      by_answer yes_no cleanup_rule (record_of kind.Cleanup dot) (λ x. cleanup-record (record_of kind.Cleanup dot) x refl) (done dots rects) left
 
 -- ---- the kind of a record
 
 -- a record of another kind changes nothing
-pub other_kind : {s : State} {nodes dots : List ℕ} {rects : List ℤ} (r : Record) {n : ℕ} → ¬ (r.kind ≡ 0) → ¬ (r.kind ≡ 1) → ¬ (r.kind ≡ 2)
-    → n ≡ refused_word 9
+pub other_kind : {s : State} {nodes dots : List ℕ} {rects : List ℤ} (r : Record) {n : ℕ} → r.kind ≡ kind.Unknown → n ≡ refused_word 9
     → RecordCarriedOut (carry_out r) s nodes dots rects s nodes dots rects n
-other_kind {s} {nodes} {dots} {rects} r a b c w marks x h =
-    let e = sym (other_record r x a b c) in
+other_kind {s} {nodes} {dots} {rects} r a w marks x h =
+    let e = sym (other_record r x a) in
     (subst (λ (z : Recorded). Holds (world s nodes dots rects marks) z.shape) e h, w ∙ ap (λ (z : Recorded). z.word) e)
 
 -- a record is one of its kind
-pub of_kind : (r : Record) (k : ℕ) → r.kind ≡ k
+pub of_kind : (r : Record) (k : Kind) → r.kind ≡ k
     → {s : State} {nodes dots : List ℕ} {rects : List ℤ} {s' : State} {nodes' dots' : List ℕ} {rects' : List ℤ} {n : ℕ}
     → RecordCarriedOut (carry_out (record_of k r.dot)) s nodes dots rects s' nodes' dots' rects' n
     → RecordCarriedOut (carry_out r) s nodes dots rects s' nodes' dots' rects' n
 of_kind r k e {s} {nodes} {dots} {rects} {s'} {nodes'} {dots'} {rects'} {n} d =
-    subst (λ (j : ℕ). RecordCarriedOut (carry_out (record_of j r.dot)) s nodes dots rects s' nodes' dots' rects' n) (sym e) d
+    subst (λ (j : Kind). RecordCarriedOut (carry_out (record_of j r.dot)) s nodes dots rects s' nodes' dots' rects' n) (sym e) d
 
 -- ---- the row with the record's word, and the settings as they were
 
@@ -137,44 +133,7 @@ module _ (r : Record) {s : State} {nodes dots : List ℕ} {rects : List ℤ} (t 
   same-carried_out e =
       subst (λ (v : State). RecordCarriedOut (carry_out r) s nodes dots rects v nodes' dots' rects' n) (same-settings s s' kept-settings ∙ sym e) done
 
-pub stepped : (r : Record) (i : ℕ) {b : Batched} {answers nodes dots : List ℕ} {rects : List ℤ} {s' u : State} {nodes' dots' : List ℕ} {rects' : List ℤ} {n : ℕ}
-    → IsTree b.state nodes dots rects → RecordCarriedOut (carry_out r) b.state nodes dots rects s' nodes' dots' rects' n → u ≡ same_settings b.state s'
-    → Stepped r i b answers nodes dots rects (record { refusal = b.refusal; count = b.count; state = u }) (set answers i n) nodes' dots' rects'
-stepped r i {answers = answers} t done e = record {
-  refusal = refl;
-  count = refl;
-  words = λ marks x h. let w = same-carried_out r t done e marks x h in (w.0, ap (set answers i) w.1);
-}
-
--- ---- refusals
-
-insert-small : (dot : Dot) (w : World) (x : Shape) → Valid x → refusal (carried_out w [] (insert_rule dot x)).reply ≤ 255
-insert-small dot w x v = ⊎_elim (λ k. rw k.1 k.2.byte) (λ g. rw g.1 (omega arith)) (insert_cases dot x v)
-
-says-small : (yes? : Bool) (other : Shape) (w : World) (x : Shape) → refusal (carried_out w [] (yes_or_no yes? other x)).reply ≤ 255
-says-small true other w x = ⊎_elim (λ c. rw c.0 (omega arith)) (λ c. rw c.0 (omega arith)) (counted_cases {B = ℕ} other [] true)
-says-small false other w x = omega arith
-
--- a refusal's word fits where the rule's refusals do
-by-small : {A : Type 0} (rule : Shape → Verdict ℕ A) → ((w : World) (x : Shape) → Valid x → refusal (carried_out w [] (rule x)).reply ≤ 255)
-    → {s : State} {nodes dots : List ℕ} {rects : List ℤ} {s' : State} {nodes' dots' : List ℕ} {rects' : List ℤ} {reply : Reply A}
-    → IsTree s nodes dots rects → CarriedOut rule s nodes dots rects s' nodes' dots' rects' reply → refusal reply ≤ 255
-by-small rule small {s} {nodes} {dots} {rects} t done =
-    let w = world s nodes dots rects t.marks in
-    omega (arith, ap refusal (reply_of (done t.marks t.shape t.holds)), small w t.shape t.holds.valid)
-
-module _ {s : State} {nodes dots : List ℕ} {rects : List ℤ} (t : IsTree s nodes dots rects) {nodes' dots' : List ℕ} {rects' : List ℤ} where
-  pub insert-word : (dot : Dot) (a : InsertAnswer) → CarriedOut (insert_rule dot) s nodes dots rects (insert_state s a) nodes' dots' rects' (insert_reply a)
-      → refusal (insert_reply a) ≤ 255
-  insert-word dot a done = by-small (insert_rule dot) (insert-small dot) t done
-
-  pub remove-word : (id : ℕ) (r : AABB) (a : YesNoAnswer)
-      → CarriedOut (remove_rule id r) s nodes dots rects (yes_no_state s a) nodes' dots' rects' (yes_no_reply a) → refusal (yes_no_reply a) ≤ 255
-  unfolding remove_rule
-  remove-word id r a done = by-small (remove_rule id r) (λ w x v. says-small (found_by id r x) (removed id r x) w x) t done
-
-pub cleanup-word : {s : State} {nodes dots : List ℕ} {rects : List ℤ} → IsTree s nodes dots rects → (nodes' : List ℕ) (a : YesNoAnswer)
-    → CleanedUp s nodes nodes' a → refusal (yes_no_reply a) ≤ 255
-unfolding CleanedUp cleanup_rule
-cleanup-word {dots = dots} {rects = rects} t nodes' a done =
-    by-small cleanup_rule (λ w x v. says-small (cleans x) (cleaned x) w x) t (done dots rects)
+pub stepped : (r : Record) (i : ℕ) {s : State} {answers nodes dots : List ℕ} {rects : List ℤ} {s' u : State} {nodes' dots' : List ℕ} {rects' : List ℤ} {n : ℕ}
+    → IsTree s nodes dots rects → RecordCarriedOut (carry_out r) s nodes dots rects s' nodes' dots' rects' n → u ≡ same_settings s s'
+    → Stepped r i s answers nodes dots rects u (set answers i n) nodes' dots' rects'
+stepped r i {answers = answers} t done e = record { words = λ marks x h. let w = same-carried_out r t done e marks x h in (w.0, ap (set answers i) w.1) }

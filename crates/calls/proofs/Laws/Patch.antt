@@ -1,13 +1,15 @@
 -- The four ways through a patch.
 --     patch_13     another tint or tile number
 --     patch-refused, patch-answered        a refusal of the check, and what the patch without it leaves
-use Rattle.std.specs.Prelude.{◌≡◌, refl, List, [], Bool, true, false, not, ℕ, ℤ}
+use Rattle.std.specs.Prelude.{◌≡◌, refl, List, [], Bool, true, false, not, ℕ, ℤ, Result, Ok, Err}
 use Rattle.std.proofs.Common.{sym, ◌∙◌}
 use Rattle.std.proofs.lemmas.Bool.{not-true, not-false}
 use Rattle.arithmetic.proofs.Laws.Tests.{true_false}
 use Rattle.model.specs.declared.State.{State}
 use Rattle.model.specs.declared.patch.Patch.{Patch}
 use Rattle.model.specs.Layout.{World, world}
+use Rattle.model.specs.declared.refusal.Refusal.{Refusal}
+use Rattle.model.specs.Refusals.{refusal_reply, refusal_number}
 use Rattle.model.specs.Calls.{Reply, refused, exit, Obeys}
 use Rattle.model.specs.Patch.{patch_fits, patch_rule, LayPatch}
 use Rattle.tree_check.specs.Checks.{Checked}
@@ -25,12 +27,12 @@ module _ (p : Patch) {b : Bool} (test : b ≡ patch_fits p) where
     good : {w w' : World} {reply : Reply ℕ} → Obeys true (patch_rule p) w [] (exit w' [] reply) → LayPatch w p w' reply
     good o = record { bad_patch = λ e. true_false (sym patch-fits ∙ e); good_patch = λ _. o }
 
-    module _ {s : State} {nodes dots : List ℕ} {rects : List ℤ} {marks marks' : List ℕ} {refusal : ℕ}
-        (c : Checked s nodes dots rects marks marks' refusal) where
-      pub patch-refused : (refusal ≡ 0 → ⊥) → LayPatch (world s nodes dots rects marks) p (world s nodes dots rects marks') (refused refusal)
+    module _ {s : State} {nodes dots : List ℕ} {rects : List ℤ} {marks marks' : List ℕ} {checked : Result (Unit {0}) Refusal}
+        (c : Checked s nodes dots rects marks marks' (refusal_number checked)) where
+      pub patch-refused : {e : Refusal} → checked ≡ Err e → LayPatch (world s nodes dots rects marks) p (world s nodes dots rects marks') (refusal_reply e)
       patch-refused ne = good (call-refused c (patch_rule p) [] ne)
 
-      pub patch-answered : refusal ≡ 0 → {s' : State} {nodes' dots' : List ℕ} {rects' : List ℤ} {reply : Reply ℕ}
+      pub patch-answered : {u : Unit {0}} → checked ≡ Ok u → {s' : State} {nodes' dots' : List ℕ} {rects' : List ℤ} {reply : Reply ℕ}
           → CarriedOut (patch_rule p) s nodes dots rects s' nodes' dots' rects' reply
           → LayPatch (world s nodes dots rects marks) p (world s' nodes' dots' rects' marks') reply
       patch-answered z done = good (call_carried c (patch_rule p) [] z done)

@@ -2,8 +2,7 @@
 --     bit_length-leading   leading zeros and bit length make the width
 --     halvings-is          2^k ≤ q < 2^(k+1) for the halvings k of q > 0
 --     bit_length-is        2^k ≤ q < 2^(k+1) for k one less than the bit length
---     larger_height, larger_width      W by the test of the sides
---     deepest-none, deepest-small, leading-few, deepest-limit, deepest-halvings     D by the cases of the code that finds it
+--     deepest-none, deepest-small, leading-few, deepest-found     D by the cases of the code that finds it
 use Rattle.std.specs.Prelude.{◌≡◌, refl, ℕ, zero, suc, ◌+◌, ◌-◌, ◌/◌, ◌^◌, ◌≤◌, ◌<◌, min}
 use Rattle.std.proofs.Common.{ap, sym, ◌∙◌, div-le_self}
 use Rattle.std.proofs.Math.Nat.{two-pow-succ, div-zero}
@@ -11,7 +10,6 @@ use borrow.Author.Tests.{eq-eqb, ne_eqb}
 use native.Mathlib.Omega.{arith}
 use Rattle.std.specs.Int.Count.{count_leading_zeros}
 use Rattle.std.proofs.lemmas.Nat.{leading_top}
-use Rattle.arithmetic.specs.Ints.{natural}
 use Rattle.geometry.specs.Settings.{bits_within, bit_length, W, halvings, D}
 use Rattle.geometry.specs.declared.settings.Settings.{Settings}
 use Rattle.geometry.proofs.Laws.Geometry.{bits-half}
@@ -42,16 +40,6 @@ bit_length-is q h =
     let e : bit_length q ≡ suc t.0 = omega (arith, t.1) in
     let d : bit_length q - 1 ≡ t.0 = omega arith in
     (rw d t.2, rw e t.3)
-
--- the larger side
-module _ (s : Settings) (w h : ℕ) (width : w ≡ natural s.width) (height : h ≡ natural s.height) where
-  pub larger_height : w < h → h ≡ W s
-  unfolding W
-  larger_height l = omega arith
-
-  pub larger_width : h ≤ w → w ≡ W s
-  unfolding W
-  larger_width l = omega arith
 
 -- the quotient by which the halvings are found
 abbrev pub quotient : Settings → ℕ
@@ -86,12 +74,6 @@ module _ (s : Settings) (w : ℕ) (e : w ≡ W s) where
     pub leading-few : count_leading_zeros 32 (w / s.smallest_cell) ≤ 31
     leading-few = omega (arith, leading, bits-half (w / s.smallest_cell) (omega arith))
 
-    smaller : min s.depth_limit (31 - count_leading_zeros 32 (w / s.smallest_cell)) ≡ D s
+    pub deepest-found : min s.depth_limit (31 - count_leading_zeros 32 (w / s.smallest_cell)) ≡ D s
     unfolding D halvings
-    smaller = rw (← e, ne_eqb (w / s.smallest_cell) 0 some) (omega (arith, leading, leading-few))
-
-    pub deepest-limit : s.depth_limit < 31 - count_leading_zeros 32 (w / s.smallest_cell) → s.depth_limit ≡ D s
-    deepest-limit h = omega (arith, smaller)
-
-    pub deepest-halvings : 31 - count_leading_zeros 32 (w / s.smallest_cell) ≤ s.depth_limit → 31 - count_leading_zeros 32 (w / s.smallest_cell) ≡ D s
-    deepest-halvings h = omega (arith, smaller)
+    deepest-found = rw (← e, ne_eqb (w / s.smallest_cell) 0 some) (omega (arith, leading, leading-few))

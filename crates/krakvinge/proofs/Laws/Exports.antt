@@ -3,14 +3,14 @@
 --     exported_changed, exported_read      THE PATTERN: a call that may change the state, and one that reads
 --     patch_bad, patch-good        refusal 13, and any other patch
 --     check_other, check_row, make_other, make-row     the same for the check and make
-use Rattle.std.specs.Prelude.{◌≡◌, refl, List, [], Bool, true, false, not, ℕ, ℤ, length}
+use Rattle.std.specs.Prelude.{◌≡◌, refl, List, [], Bool, true, false, not, ℕ, ℤ, length, Result}
 use Rattle.std.proofs.Common.{sym, ◌∙◌, subst}
 use Rattle.arithmetic.proofs.Laws.Tests.{true_false}
 use Rattle.geometry.specs.declared.settings.Settings.{Settings}
 use Rattle.model.specs.declared.State.{State}
 use Rattle.model.specs.declared.patch.Patch.{Patch}
 use Rattle.model.specs.Patch.{patch_fits, LayPatch}
-use Rattle.model.specs.declared.answers.MakeAnswer.{MakeAnswer}
+use Rattle.model.specs.declared.refusal.Refusal.{Refusal}
 use Rattle.model.specs.Answers.{make_reply, make_state}
 use Rattle.model.specs.Layout.{World, world}
 use Rattle.model.specs.Calls.{Reply, Make}
@@ -72,7 +72,7 @@ module _ (row nodes dots : List ℕ) (rects : List ℤ) (marks : List ℕ) where
   pub make_other : (length row ≡ 12 → ⊥) → Makes row nodes dots rects marks row nodes dots rects marks 1
   make_other ne = record { other_length = λ _. (refl, refl, refl, refl, refl, refl); carried_out = λ e. absurd (ne e) }
 
-  pub make-row : (s : Settings) (row' nodes' dots' : List ℕ) (rects' : List ℤ) (marks' : List ℕ) (result : ℕ) (m : MakeAnswer) → length row ≡ 12
+  pub make-row : (s : Settings) (row' nodes' dots' : List ℕ) (rects' : List ℤ) (marks' : List ℕ) (result : ℕ) (m : Result State Refusal) → length row ≡ 12
       → s ≡ settings_in row
       → ((before : State) → Make (world before nodes dots rects marks) s (world (make_state before m) nodes' dots' rects' marks') (make_reply m))
       → result ≡ result_of (make_reply m) → row' ≡ made_row m row → Makes row nodes dots rects marks row' nodes' dots' rects' marks' result

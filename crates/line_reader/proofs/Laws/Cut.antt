@@ -63,7 +63,7 @@ pub long_kept : (l : List ℕ) → 80 < length l → length (take 81 l) ≡ 81
 long_kept l h = omega (arith, length-take 81 l)
 
 -- the part kept is the true part's first bytes
-keep-take : (room : ℕ) (u : List ℕ) (b : ℕ) → keep room (take room u) b ≡ take room (u ++ (b ∷ []))
+pub keep-take : (room : ℕ) (u : List ℕ) (b : ℕ) → keep room (take room u) b ≡ take room (u ++ (b ∷ []))
 unfolding keep
 keep-take room u b =
     by_bool (ltb (length (take room u)) room)

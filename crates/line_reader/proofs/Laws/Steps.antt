@@ -1,101 +1,103 @@
 -- Laws of the steps.
---     store_kept, full_kept                        a byte more of a line
---     scan-start, scan-found, scan-on, scan-over   the loop to the end of the line
+--     keep_all-take, kept-bytes    more bytes of a line
+--     found-line, found-part       the bytes to the end of the line, or to their own
 --     line-fits, part-fits         the bytes at the row's front lie in the row
 --     line-inside, line-less       the bytes after a line, and that they are fewer
 --     finds-reads  THE LINK: what a caller makes of an answer is what the reader does, for any turn
 --     finds_fixed  an answer and the row are fixed by what was given
-use Rattle.std.specs.Prelude.{◌≡◌, refl, List, [], ◌∷◌, ◌++◌, Bool, true, false, ℕ, ◌+◌, ◌-◌, ◌≤◌, ◌<◌, eqb, ltb, length, take, drop, get_or, set}
-use Rattle.std.proofs.Common.{ap, ap₂, sym, ◌∙◌, add-one, arith, lt-ltb, le-ltb, eq-eqb, ne_eqb, length-set, length-append, length-take, length-drop, take-append-drop, take-suc-set, length-take-le, drop-set-lt, drop-drop, drop-cons}
+use Rattle.std.specs.Prelude.{◌≡◌, refl, List, [], ◌∷◌, ◌++◌, Bool, true, false, ℕ, zero, suc, ◌+◌, ◌-◌, ◌≤◌, ◌<◌, min, eqb, ltb, Some, None}
+use Rattle.std.specs.Prelude.{length, take, drop, get_or}
+use Rattle.std.proofs.Common.{ap, ap₂, sym, ◌∙◌, arith, append-nil, append_assoc, length-append, length-take, length-drop, take-append-drop}
+use Rattle.std.proofs.Common.{length-take-le, take_all, drop-drop, ltb-false}
+use Rattle.std.proofs.Math.Seq.{take-append-add}
+use Rattle.std.proofs.lemmas.List.{take_min}
+use Rattle.std.proofs.lemmas.List.Sums.{fails_before_first}
+use Rattle.std.proofs.lemmas.List.Quantifiers.{position-Some}
+use Rattle.std.specs.List.{position, position_or_len}
+use Rattle.std.proofs.lemmas.Slice.{take-put_mid, drop-put_mid}
+use borrow.Rule.Slice.PartMut.{put_mid}
 use Rattle.arithmetic.proofs.Laws.Tests.{true_false, by_bool}
 use Rattle.line_reader.specs.declared.Found.{Found}
 use Rattle.line_reader.specs.declared.Found.TheVariants as found
-use Rattle.line_reader.specs.Cut.{keep, Progress, progress, read_bytes, Scan, whole, part, scan}
-use Rattle.line_reader.proofs.Laws.Cut.{after_scan, read-scan}
-use Rattle.line_reader.specs.Steps.{Kept, GoesOn, scan_of, Finds, Scanned}
+use Rattle.line_reader.specs.Cut.{keep, keep_all, Progress, progress, read_bytes, Scan, whole, part, scan}
+use Rattle.line_reader.proofs.Laws.Cut.{keep-take, after_scan, read-scan}
+use Rattle.line_reader.specs.Steps.{Kept, GoesOn, scan_of, Finds}
 
--- ---- one byte more
+-- ---- more bytes
 
-pub store_kept : {row : List ℕ} {kept b : ℕ} → kept < length row → Kept row kept b (set row kept b) (kept + 1)
-unfolding keep
-store_kept {row} {kept} {b} room =
-    let short : ltb (length (take kept row)) (length row) ≡ true = lt-ltb (length (take kept row)) (length row) (omega (arith, length-take kept row)) in
+-- what is kept is the first bytes, as many as there is room for
+keep_all-take : (room : ℕ) (u bs : List ℕ) → keep_all room (take room u) bs ≡ take room (u ++ bs)
+keep_all-take room u [] = ap (take room) (sym (append-nil u))
+keep_all-take room u (b ∷ bs) =
+    ap (λ (l : List ℕ). keep_all room l bs) (keep-take room u b) ∙ keep_all-take room (u ++ (b ∷ [])) bs
+    ∙ ap (take room) (append_assoc u (b ∷ []) bs)
+
+-- a part of the row is written with the first of the bytes
+pub kept-bytes : {row bytes part : List ℕ} {kept count size : ℕ} → kept ≤ length row → count ≡ min (length row - kept) (length bytes)
+    → size ≡ count → part ≡ take count bytes → Kept row kept bytes (put_mid kept size row part) (kept + count)
+kept-bytes {row} {bytes} {part} {kept} {count} {size} fits few same e =
+    let long : length part ≡ count = omega (arith, ap length e, length-take count bytes) in
+    let front : take (kept + count) (put_mid kept size row part) ≡ take kept row ++ part =
+    take-put_mid kept size row part (kept + count) (omega arith) fits in
+    let some : length (take kept row) ≡ kept = length-take-le kept row fits in
+    let own : take (length row) (take kept row) ≡ take kept row = take_all (length row) (take kept row) (omega arith) in
+    let room : length (take kept row) + (length row - kept) ≡ length row = omega arith in
+    let all : take (length row) (take kept row ++ bytes) ≡ take kept row ++ take (length row - kept) bytes =
+    rw room at (take-append-add (take kept row) bytes (length row - kept)) in
     record {
-      within = simp length-set (omega arith);
-      holds = rw (short, add-one) (take-suc-set row kept b room);
-      rest = drop-set-lt (kept + 1) row kept b (omega arith);
+      within = let whole = length-take (kept + count) (put_mid kept size row part) in omega (arith, ap length front, whole, length-append (take kept row) part);
+      holds = front ∙ ap (λ (l : List ℕ). take kept row ++ l) (e ∙ ap (λ (n : ℕ). take n bytes) few ∙ take_min (length row - kept) bytes) ∙ sym all
+          ∙ sym (keep_all-take (length row) (take kept row) bytes) ∙ ap (λ (l : List ℕ). keep_all (length row) l bytes) own;
+      rest = drop-put_mid kept size row part (kept + count) (omega arith) fits (omega arith);
     }
-
-pub full_kept : {row : List ℕ} {kept b : ℕ} → kept ≤ length row → length row ≤ kept → Kept row kept b row kept
-unfolding keep
-full_kept {row} {kept} {b} fits full =
-    let long : ltb (length (take kept row)) (length row) ≡ false = le-ltb (length (take kept row)) (length row) (omega (arith, length-take kept row)) in
-    record { within = fits; holds = rw long refl; rest = refl }
-
--- no kept byte is lost
-keep_longer : (room : ℕ) (kept : List ℕ) (b : ℕ) → length kept ≤ length (keep room kept b)
-unfolding keep
-keep_longer room kept b =
-    by_bool (ltb (length kept) room) (λ e. rw e (omega (arith, length-append kept (b ∷ [])))) (λ e. rw e (omega arith))
-
-kept_longer : {row₀ row : List ℕ} {kept b n : ℕ} → kept ≤ length row₀ → Kept row₀ kept b row n → kept ≤ n
-kept_longer {row₀} {row} {kept} {b} {n} fits k =
-    omega (arith, length-take-le kept row₀ fits, length-take-le n row k.within, ap length k.holds, keep_longer (length row₀) (take kept row₀) b)
 
 -- ---- the bytes from a place on
 
-module _ (room : ℕ) (kept bytes : List ℕ) (i : ℕ) where
-  scan-line : i < length bytes → eqb (get_or bytes i 0) 10 ≡ true → scan room kept (drop i bytes) ≡ whole kept (drop (i + 1) bytes)
-  scan-line b e = rw (add-one, drop-cons bytes i 0 b, e) refl
+-- the first LF ends the line
+scan-line : (room : ℕ) (kept rest : List ℕ) (i : ℕ) → i < length rest → eqb (get_or rest i 0) 10 ≡ true
+    → ((k : ℕ) → k < i → eqb (get_or rest k 0) 10 ≡ false) → scan room kept rest ≡ whole (keep_all room kept (take i rest)) (drop (suc i) rest)
+scan-line room kept [] i h e f = absurd (omega arith)
+scan-line room kept (b ∷ bs) zero h e f = rw e refl
+scan-line room kept (b ∷ bs) (suc i) h e f =
+    rw (f zero (omega arith)) (scan-line room (keep room kept b) bs i (omega arith) e (λ k l. f (suc k) (omega arith)))
 
-  scan-more : i < length bytes → eqb (get_or bytes i 0) 10 ≡ false
-      → scan room kept (drop i bytes) ≡ scan room (keep room kept (get_or bytes i 0)) (drop (i + 1) bytes)
-  scan-more b e = rw (add-one, drop-cons bytes i 0 b, e) refl
+scan-part : (room : ℕ) (kept rest : List ℕ) → ((k : ℕ) → k < length rest → eqb (get_or rest k 0) 10 ≡ false)
+    → scan room kept rest ≡ part (keep_all room kept rest)
+scan-part room kept [] f = refl
+scan-part room kept (b ∷ bs) f = rw (f zero (omega arith)) (scan-part room (keep room kept b) bs (λ k l. f (suc k) (omega arith)))
 
-  scan_end : length bytes ≤ i → scan room kept (drop i bytes) ≡ part kept
-  scan_end e = ap (scan room kept) (none (drop i bytes) (omega (arith, length-drop i bytes)))
-    where
-      none : (l : List ℕ) → length l ≤ 0 → l ≡ []
-      none [] h = refl
-      none (x ∷ l) h = absurd (omega arith)
+abbrev pub is_lf : ℕ → Bool
+is_lf b = eqb b 10
 
--- ---- the loop
+no_lf : (rest : List ℕ) → position is_lf rest ≡ None → (k : ℕ) → k < length rest → eqb (get_or rest k 0) 10 ≡ false
+no_lf rest none k h =
+    by_bool (ltb (position_or_len is_lf rest) (length rest))
+    (λ t. absurd (let some : Some (position_or_len is_lf rest) ≡ None = rw t at none in cc))
+    (λ f. fails_before_first is_lf rest k 0 (omega (arith, ltb-false (position_or_len is_lf rest) (length rest) f)))
 
-pub scan-start : {row bytes : List ℕ} {kept at : ℕ} → (kept ≤ length row) × (at ≤ length bytes) → Scanned row kept bytes at row kept at
-scan-start fits = record { within = fits.0; rest = refl; later = omega arith; inside = fits.1; same_length = refl; scans = refl }
-
--- rows that agree from a place on agree from any later one
-drop-later : (row row₀ : List ℕ) {n m : ℕ} → n ≤ m → drop n row ≡ drop n row₀ → drop m row ≡ drop m row₀
-drop-later row row₀ {n} {m} h e =
-    let there : n + (m - n) ≡ m = omega arith in
-    rw there at (sym (drop-drop (m - n) n row) ∙ ap (drop (m - n)) e ∙ drop-drop (m - n) n row₀)
-
-module _ {row₀ bytes row : List ℕ} {kept at n i : ℕ} (so_far : Scanned row₀ kept bytes at row n i) where
-  pub scan-found : i < length bytes → get_or bytes i 0 ≡ 10 → Finds row₀ kept bytes at row (found.Line n (i + 1))
-  scan-found b e = record {
-    within = so_far.within;
-    rest = so_far.rest;
-    goes_on = (omega arith, omega arith);
-    scans = so_far.scans ∙ scan-line (length row₀) (take n row) bytes i b (eq-eqb (get_or bytes i 0) 10 e);
-  }
-
-  pub scan-on : {row' : List ℕ} {m : ℕ} → i < length bytes → (get_or bytes i 0 ≡ 10 → ⊥) → length row' ≡ length row
-      → Kept row n (get_or bytes i 0) row' m → Scanned row₀ kept bytes at row' m (i + 1)
-  scan-on {row'} {m} b e same k =
-      let there : keep (length row₀) (take n row) (get_or bytes i 0) ≡ take m row' = rw so_far.same_length at (sym k.holds) in
+module _ {row₀ bytes rest row : List ℕ} {kept at n : ℕ} (here : rest ≡ drop at bytes) (inside : at ≤ length bytes) where
+  pub found-line : {end : ℕ} → position is_lf rest ≡ Some end → Kept row₀ kept (take end rest) row n
+      → Finds row₀ kept bytes at row (found.Line n (at + end + 1))
+  found-line {end} e k =
+      let first = position-Some is_lf rest end 0 e in
+      let after : drop (suc end) rest ≡ drop (at + end + 1) bytes =
+      ap (drop (suc end)) here ∙ drop-drop (suc end) at bytes ∙ ap (λ (m : ℕ). drop m bytes) (omega arith) in
       record {
         within = k.within;
-        rest = k.rest ∙ drop-later row row₀ (kept_longer so_far.within k) so_far.rest;
-        later = omega arith;
-        inside = omega arith;
-        same_length = same ∙ so_far.same_length;
-        scans = so_far.scans ∙ scan-more (length row₀) (take n row) bytes i b (ne_eqb (get_or bytes i 0) 10 e)
-            ∙ ap (λ (l : List ℕ). scan (length row₀) l (drop (i + 1) bytes)) there;
+        rest = k.rest;
+        goes_on = (omega arith, omega (arith, first.0, ap length here, length-drop at bytes));
+        scans = ap (scan (length row₀) (take kept row₀)) (sym here) ∙ scan-line (length row₀) (take kept row₀) rest end first.0 first.1 first.2
+            ∙ ap₂ whole (sym k.holds) after;
       }
 
-  pub scan-over : length bytes ≤ i → Finds row₀ kept bytes at row (found.More n)
-  scan-over e =
-      record { within = so_far.within; rest = so_far.rest; goes_on = tt; scans = so_far.scans ∙ scan_end (length row₀) (take n row) bytes i e }
+  pub found-part : position is_lf rest ≡ None → Kept row₀ kept rest row n → Finds row₀ kept bytes at row (found.More n)
+  found-part e k = record {
+    within = k.within;
+    rest = k.rest;
+    goes_on = tt;
+    scans = ap (scan (length row₀) (take kept row₀)) (sym here) ∙ scan-part (length row₀) (take kept row₀) rest (no_lf rest e)
+        ∙ ap part (sym k.holds);
+  }
 
 -- ---- what a caller makes of an answer: a turn with the line at the row's front, or bytes that stay there
 

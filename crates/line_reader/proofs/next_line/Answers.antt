@@ -1,15 +1,22 @@
-use Rattle.std.proofs.Common.{rules}
-use Rattle.line_reader.proofs.Laws.Steps.{scan-start, scan-found, scan-on, scan-over}
+-- The first LF from the place on ends the line; without one, all the bytes are a part of it.
+use Rattle.std.proofs.Common.{rules, tests, sym, ◌∙◌, ◌≡◌, ◌-◌, length, take, drop}
+use Rattle.std.proofs.lemmas.Iterator.{YieldsList-from_slice}
+use Rattle.std.proofs.lemmas.Iterator.Search.{position_from_yields_List}
+use Rattle.std.proofs.lemmas.List.{take_rest}
+use Rattle.std.specs.List.{position}
+use Rattle.line_reader.proofs.Laws.Steps.{is_lf, found-line, found-part}
 use Rattle.line_reader.proofs.next_line.Goals as goal
 
-pub loop-i-init : goal.loop-i-init
-loop-i-init c = search (rules, scan-start)
+pub returns-in-Some : goal.returns-in-Some
+returns-in-Some c =
+    let rest = take (length c.args.bytes.now - c.args.at) (drop c.args.at c.args.bytes.now) in
+    let first : c.position.result ≡ position is_lf rest =
+    position_from_yields_List is_lf _ _ _ c.position.ensures.ran (YieldsList-from_slice rest cc) (λ x b q k. search (rules, tests)) in
+    found-line (take_rest c.args.bytes.now c.args.at) c.requires.1 (sym first ∙ c.in-Some.is) c.keep.ensures
 
-pub returns-then-b-eq10 : goal.returns-then-b-eq10
-returns-then-b-eq10 c = search (rules, scan-found)
-
-pub loop-i-preserved : goal.loop-i-preserved
-loop-i-preserved c = search (rules, scan-on)
-
-pub returns : goal.returns
-returns c = search (rules, scan-over)
+pub returns-in-None : goal.returns-in-None
+returns-in-None c =
+    let rest = take (length c.args.bytes.now - c.args.at) (drop c.args.at c.args.bytes.now) in
+    let first : c.position.result ≡ position is_lf rest =
+    position_from_yields_List is_lf _ _ _ c.position.ensures.ran (YieldsList-from_slice rest cc) (λ x b q k. search (rules, tests)) in
+    found-part (take_rest c.args.bytes.now c.args.at) c.requires.1 (sym first ∙ c.in-None.is) c.keep-in-None.ensures

@@ -1,23 +1,28 @@
 -- Laws of decimal text.
---     digits-none, digits-few, digits_more     the three cases of printing
+--     digits-few, digits_more                  the two cases of printing
+--     decimal-std                              std's decimal text, which itoa prints, is the same
 --     digits-length, digits-some, decimal-two  how many there are; two at most of a number below 100
 --     digits-plain                             each byte is a digit's code or above
 --     digits_value                             added up, the digits give the number
 --     natural-part                             a part is read exactly if it is a number's text
---     integer_empty, integer_minus, integer_plus      the same of an integer's, by the part's first byte
---     begins, same_head, same-tail             bytes by their first
---     value_step, value_end                    the loop that adds the bytes up
-use Rattle.std.specs.Prelude.{◌≡◌, refl, List, [], ◌∷◌, ◌++◌, Bool, true, false, ◌&&◌, ℕ, zero, suc, ◌+◌, ◌-◌, ◌/◌, ◌%◌, ◌^◌, ◌≤◌, ◌<◌, ℤ, pos, negsuc, neg_ℤ, nat_abs, ltb, leb, length, take, drop, get_or}
-use Rattle.std.proofs.Common.{ap, sym, subst, ◌∙◌, pow-suc, div-add-mod', mod-eq_of_lt, arith, sub-one, add-one, length-append, length-drop, drop_of_length-le, drop-cons, take_all, ltb-true, ltb-false, lt-ltb, le-ltb, le-leb, leb-true}
-use Rattle.arithmetic.proofs.Laws.Tests.{by_bool, true_false}
-use Rattle.arithmetic.proofs.Laws.Linear.{and_t}
+--     minus_none, minus-zero, minus_some       the same of an integer's with a minus sign
+--     first-byte, same_head, same-tail         bytes by their first
+use Rattle.std.specs.Prelude.{◌≡◌, refl, List, [], ◌∷◌, ◌++◌, Bool, true, false, Option, Some, None, ℕ, zero, suc, ◌+◌, ◌-◌, ◌/◌, ◌%◌, ◌^◌, ◌≤◌, ◌<◌}
+use Rattle.std.specs.Prelude.{ℤ, pos, negsuc, neg_ℤ, ◌-ℤ◌}
+use Rattle.std.specs.Prelude.{nat_abs, ltb, length, take, drop, get_or, option_map}
+use Rattle.std.specs.Bool.{then_some}
+use Rattle.std.proofs.Common.{ap, ap₂, sym, subst, ◌∙◌, pow-suc, div-add-mod', mod-eq_of_lt, arith, sub-one, length-append, take_all}
+use Rattle.std.proofs.Common.{ltb-true, ltb-false, lt-ltb, le-ltb}
+use Rattle.std.proofs.lemmas.Fmt.{AppendsLastDigit, decimal_from_appends, length-decimal-le}
+use Rattle.std.proofs.Math.Nat.{suc_inj}
+use Rattle.std.specs.Fmt as std_fmt
+use Rattle.std.specs.Option.{SomeIff}
+use Rattle.std.specs.Prelude.{FitsSigned}
+use Rattle.std.proofs.Common.{w32}
+use lib.IntN.{+ℤ_idl}
+use Rattle.arithmetic.proofs.Laws.Tests.{by_bool}
 use Rattle.lines.specs.Text.{digits, decimal, number, u32, i32, Within}
-use Rattle.lines.specs.Reading.{Part, Put, shifted, value_from}
-
-pub digits-none : (places n : ℕ) → places ≡ 0 → digits places n ≡ []
-unfolding digits
-digits-none zero n e = refl
-digits-none (suc k) n e = absurd (omega arith)
+use Rattle.lines.specs.Reading.{Part, shifted, value_from}
 
 pub digits-few : (places n : ℕ) → (places ≡ 0 → ⊥) → n < 10 → digits places n ≡ (48 + n) ∷ []
 unfolding digits
@@ -29,6 +34,13 @@ pub digits_more : (places n : ℕ) → (places ≡ 0 → ⊥) → 10 ≤ n
 unfolding digits
 digits_more zero n e h = absurd (e refl)
 digits_more (suc k) n e h = rw (le-ltb n 10 h, sub-one)
+
+-- std's decimal text, which has no bound on the places
+pub decimal-std : (n : ℕ) → n < 2 ^ 32 → std_fmt.decimal n ≡ decimal n
+decimal-std n small = sym (decimal_from_appends digits last 10 n (omega arith) (length-decimal-le 10 n (omega arith) (omega arith) (omega arith)))
+  where
+    last : AppendsLastDigit digits
+    last = record { one = λ k m h. digits-few (suc k) m (λ e. omega arith) h; more = λ k m h. digits_more (suc k) m (λ e. omega arith) h ∙ rw sub-one }
 
 pub digits-length : (places n : ℕ) → length (digits places n) ≤ places
 unfolding digits
@@ -67,12 +79,11 @@ digits-plain (suc k) n =
     (λ f. rw f (plain_snoc (digits k (n / 10)) (48 + n % 10) (digits-plain k (n / 10)) (omega arith)))
 
 value_snoc : (bs : List ℕ) (v b : ℕ) → value_from v (bs ++ (b ∷ [])) ≡ shifted (value_from v bs) b
-unfolding value_from
 value_snoc [] v b = refl
 value_snoc (a ∷ bs) v b = value_snoc bs (shifted v a) b
 
 pub digits_value : (places n : ℕ) → n < 10 ^ places → n < 2 ^ 32 → value_from 0 (digits places n) ≡ n
-unfolding digits value_from
+unfolding digits
 digits_value zero n few small = omega arith
 digits_value (suc k) n few small =
     by_bool (ltb n 10) (λ t. rw t (omega (arith, ltb-true n 10 t)))
@@ -81,32 +92,29 @@ digits_value (suc k) n few small =
     let last : (48 + n % 10) % 16 ≡ n % 10 = omega arith in
     rw f (value_snoc (digits k (n / 10)) 0 (48 + n % 10) ∙ rw (rest, last, div-add-mod') (mod-eq_of_lt small)))
 
--- ---- a part read as a number: what the reader has done, and what it made
+-- ---- a part read as a number
 
--- the bytes are added up to v, v's text is put into a row, and the test holds that text against the bytes
-pub natural-part : {row₀ row : List ℕ} {next : ℕ} (bytes : List ℕ) (v : ℕ) (same? : Bool) → v < 2 ^ 32 → v ≡ value_from 0 bytes
-    → Put row₀ 0 (decimal v) row next → (same? ≡ true → take next row ≡ bytes) × (take next row ≡ bytes → same? ≡ true)
-    → Part u32 bytes same? (pos v)
-natural-part bytes v same? small e put same = record { sound = λ t. (small, sym put.holds ∙ same.0 t); complete = whole }
+-- the bytes are added up to v, and v's text is held against the bytes
+pub natural-part : (bytes : List ℕ) (v : ℕ) (same? : Bool) → v < 2 ^ 32 → v ≡ value_from 0 bytes
+    → (same? ≡ true → decimal v ≡ bytes) × (decimal v ≡ bytes → same? ≡ true) → Part u32 bytes (option_map pos (then_some same? v))
+natural-part bytes v same? small e same = record { sound = whole-sound same? same.0; complete = whole }
   where
-    whole : (y : ℤ) → Within u32 y → number y ≡ bytes → (same? ≡ true) × (pos v ≡ y)
+    whole-sound : (same? : Bool) → (same? ≡ true → decimal v ≡ bytes) → (y : ℤ) → option_map pos (then_some same? v) ≡ Some y
+        → Within u32 y × (number y ≡ bytes)
+    whole-sound true is y q = let pos-v : pos v ≡ y = cc in subst (λ (z : ℤ). Within u32 z × (number z ≡ bytes)) pos-v (small, is refl)
+    whole-sound false is y q = absurd (cc)
+
+    whole : (y : ℤ) → Within u32 y → number y ≡ bytes → option_map pos (then_some same? v) ≡ Some y
     whole (pos n) h q =
         let is-n : v ≡ n = e ∙ ap (value_from 0) (sym q) ∙ digits_value 10 n (omega arith) h in
-        (same.1 (put.holds ∙ ap decimal is-n ∙ q), ap pos is-n)
+        rw (same.1 (ap decimal is-n ∙ q)) (ap (λ (m : ℕ). Some (pos m)) is-n)
     whole (negsuc n) h q = absurd h
 
-pub integer_empty : (bytes : List ℕ) (z : ℤ) → length bytes ≡ 0 → Part i32 bytes false z
-integer_empty (b ∷ bs) z e = absurd (omega arith)
-integer_empty [] z e = record { sound = λ t. true_false (sym t); complete = none }
-  where
-    none : (y : ℤ) → Within i32 y → number y ≡ [] → (false ≡ true) × (z ≡ y)
-    none (pos n) h q = absurd (digits-some 9 n q)
-    none (negsuc n) h q = absurd (omega (arith, ap length q))
-
--- bytes by their first
-pub begins : (bytes : List ℕ) (b : ℕ) → (length bytes ≡ 0 → ⊥) → get_or bytes 0 0 ≡ b → bytes ≡ b ∷ drop 1 bytes
-begins [] b h e = absurd (h refl)
-begins (a ∷ bs) b h e = rw e
+-- bytes by their first, as a pattern of the code has them
+pub first-byte : (bytes : List ℕ) (b : ℕ) → 1 ≤ length bytes → get_or bytes 0 0 ≡ b → bytes ≡ b ∷ take (length bytes - 1) (drop 1 bytes)
+first-byte [] b some e = absurd (omega arith)
+first-byte (a ∷ bs) b some e =
+    let same : a ≡ b = e in ap₂ (λ (c : ℕ) (cs : List ℕ). c ∷ cs) same (sym (take_all (length (a ∷ bs) - 1) bs (omega arith)))
 
 pub same-tail : (a b : ℕ) (ps qs : List ℕ) → a ∷ ps ≡ b ∷ qs → ps ≡ qs
 same-tail a b ps qs e = cc
@@ -114,67 +122,62 @@ same-tail a b ps qs e = cc
 pub same_head : (a b : ℕ) (ps qs : List ℕ) → a ∷ ps ≡ b ∷ qs → a ≡ b
 same_head a b ps qs e = cc
 
--- a minus sign, then a number from 1 to 2 ^ 31
-minus_part : (bytes rest : List ℕ) (ok : Bool) (n : ℕ) (z : ℤ) → bytes ≡ 45 ∷ rest → Part u32 rest ok (pos n) → (n ≤ 2 ^ 31 → z ≡ neg_ℤ (pos n))
-    → Part i32 bytes (ok && (leb 1 n && leb n 2147483648)) z
-minus_part bytes rest ok n z b p neg = record {
-  sound = λ t. let both = and_t ok (leb 1 n && leb n 2147483648) t in
-      let range = and_t (leb 1 n) (leb n 2147483648) both.1 in
-      negative n (leb-true 1 n range.0) (leb-true n 2147483648 range.1) neg (p.sound both.0).1;
-  complete = whole;
-}
-  where
-    negative : (n : ℕ) → 1 ≤ n → n ≤ 2 ^ 31 → (n ≤ 2 ^ 31 → z ≡ neg_ℤ (pos n)) → decimal n ≡ rest → Within i32 z × (number z ≡ bytes)
-    negative zero some few neg q = absurd (omega arith)
-    negative (suc m) some few neg q =
-        subst (λ (y : ℤ). Within i32 y × (number y ≡ bytes)) (sym (neg few)) (few, ap (λ (l : List ℕ). 45 ∷ l) q ∙ sym b)
+-- ---- an integer's part: n is what its digits are, if they are a number's
 
-    whole : (y : ℤ) → Within i32 y → number y ≡ bytes → (ok && (leb 1 n && leb n 2147483648) ≡ true) × (z ≡ y)
-    whole (pos k) h q = absurd (omega (arith, (subst Plain (q ∙ b) (digits-plain 10 k)).0))
-    whole (negsuc k) h q =
-        let r = p.complete (pos (suc k)) (omega arith) (same-tail 45 45 (decimal (suc k)) rest (q ∙ b)) in
-        let same : n ≡ suc k = ap nat_abs r.1 in
-        (rw (r.0, le-leb 1 n (omega arith), le-leb n 2147483648 (omega arith)), neg (omega arith) ∙ ap (λ (j : ℕ). neg_ℤ (pos j)) same)
+-- the digits are m's
+of_digits : {bytes : List ℕ} {n : Option ℕ} {m k : ℕ} → Part u32 bytes (option_map pos n) → n ≡ Some m → k < 2 ^ 32 → decimal k ≡ bytes → m ≡ k
+of_digits {bytes} {n} {m} {k} p e few q =
+    let same : Some (pos m) ≡ Some (pos k) = sym (ap (option_map pos) e) ∙ p.complete (pos k) few q in
+    ap nat_abs (let inner : pos m ≡ pos k = cc in inner)
 
--- no minus sign: a number below 2 ^ 31
-plus_part : (bytes rest : List ℕ) (b : ℕ) (ok : Bool) (n : ℕ) (z : ℤ) → bytes ≡ b ∷ rest → (b ≡ 45 → ⊥) → Part u32 bytes ok (pos n)
-    → (n < 2 ^ 31 → z ≡ pos n) → Part i32 bytes (ok && leb n 2147483647) z
-plus_part bytes rest b ok n z e other p plus = record {
-  sound = λ t. let both = and_t ok (leb n 2147483647) t in
-      let few : n < 2 ^ 31 = omega (arith, leb-true n 2147483647 both.1) in
-      subst (λ (y : ℤ). Within i32 y × (number y ≡ bytes)) (sym (plus few)) (few, (p.sound both.0).1);
-  complete = whole;
-}
-  where
-    whole : (y : ℤ) → Within i32 y → number y ≡ bytes → (ok && leb n 2147483647 ≡ true) × (z ≡ y)
-    whole (pos k) h q =
-        let r = p.complete (pos k) (omega arith) q in
-        let same : n ≡ k = ap nat_abs r.1 in
-        (rw (r.0, le-leb n 2147483647 (omega arith)), plus (omega arith) ∙ ap pos same)
-    whole (negsuc k) h q =
-        let same : 45 ∷ decimal (suc k) ≡ b ∷ rest = q ∙ e in
-        absurd (other (cc))
+text-of : {bytes : List ℕ} {n : Option ℕ} {m : ℕ} → Part u32 bytes (option_map pos n) → n ≡ Some m → decimal m ≡ bytes
+text-of {bytes} {n} {m} p e = (p.sound (pos m) (ap (option_map pos) e)).1
 
--- the same as the code has it: the first byte is read, the rest is a part, and y is z read back from its bits
-pub integer_minus : {bytes : List ℕ} {ok : Bool} {n : ℕ} {y z : ℤ} → (length bytes ≡ 0 → ⊥) → get_or bytes 0 0 ≡ 45
-    → Part u32 (take (length bytes - 1) (drop 1 bytes)) ok (pos n) → (n ≤ 2 ^ 31 → z ≡ neg_ℤ (pos n)) → y ≡ z
-    → Part i32 bytes (ok && (leb 1 n && leb n 2147483648)) y
-integer_minus {bytes} {ok} {n} {y} {z} some first p neg e =
-    let rest : take (length bytes - 1) (drop 1 bytes) ≡ drop 1 bytes = take_all (length bytes - 1) (drop 1 bytes) (omega (arith, length-drop 1 bytes)) in
-    minus_part bytes (drop 1 bytes) ok n y (begins bytes 45 some first) (rw rest at p) (λ h. e ∙ neg h)
+not-none : {bytes : List ℕ} {n : Option ℕ} {k : ℕ} → Part u32 bytes (option_map pos n) → n ≡ None → k < 2 ^ 32 → decimal k ≡ bytes → ⊥
+not-none {bytes} {n} {k} p e few q =
+    let none : None ≡ Some (pos k) = sym (ap (option_map pos) e) ∙ p.complete (pos k) few q in cc
 
-pub integer_plus : {bytes : List ℕ} {ok : Bool} {n : ℕ} {y z : ℤ} → (length bytes ≡ 0 → ⊥) → (get_or bytes 0 0 ≡ 45 → ⊥)
-    → Part u32 bytes ok (pos n) → (n < 2 ^ 31 → z ≡ pos n) → y ≡ z → Part i32 bytes (ok && leb n 2147483647) y
-integer_plus {bytes} {ok} {n} {y} some other p plus e =
-    plus_part bytes (drop 1 bytes) (get_or bytes 0 0) ok n y (begins bytes (get_or bytes 0 0) some refl) other p (λ h. e ∙ plus h)
+module _ {bytes rest : List ℕ} (b : bytes ≡ 45 ∷ rest) where
+  not-plus : (k : ℕ) → decimal k ≡ bytes → ⊥
+  not-plus k q = omega (arith, (subst Plain (q ∙ b) (digits-plain 10 k)).0)
 
--- ---- the loop that adds up: v is the sum of the bytes before i
+  digits-are : (k : ℕ) → 45 ∷ decimal (suc k) ≡ bytes → decimal (suc k) ≡ rest
+  digits-are k q = same-tail 45 45 (decimal (suc k)) rest (q ∙ b)
 
-pub value_step : (part : List ℕ) (v i b : ℕ) → value_from 0 part ≡ value_from v (drop i part) → i < length part → b ≡ get_or part i 0
-    → value_from 0 part ≡ value_from (shifted v b) (drop (i + 1) part)
-unfolding value_from
-value_step part v i b inv h e = inv ∙ rw (drop-cons part i 0, add-one, e)
+module _ {bytes rest : List ℕ} {n : Option ℕ} (b : bytes ≡ 45 ∷ rest) (p : Part u32 rest (option_map pos n)) where
+  -- no digits follow the minus sign, or they are 0
+  pub minus_none : n ≡ None → Part i32 bytes None
+  minus_none e = record { sound = λ y q. absurd (cc); complete = whole }
+    where
+      whole : (y : ℤ) → Within i32 y → number y ≡ bytes → None ≡ Some y
+      whole (pos k) h q = absurd (not-plus b k q)
+      whole (negsuc k) h q = absurd (not-none p e (omega arith) (digits-are b k q))
 
-pub value_end : (part : List ℕ) (v i : ℕ) → value_from 0 part ≡ value_from v (drop i part) → length part ≤ i → v ≡ value_from 0 part
-unfolding value_from
-value_end part v i inv h = sym (inv ∙ rw (drop_of_length-le part h))
+  pub minus-zero : {m : ℕ} → n ≡ Some m → m ≤ 0 → Part i32 bytes None
+  minus-zero {m} e zero-m = record { sound = λ y q. absurd (cc); complete = whole }
+    where
+      whole : (y : ℤ) → Within i32 y → number y ≡ bytes → None ≡ Some y
+      whole (pos k) h q = absurd (not-plus b k q)
+      whole (negsuc k) h q = absurd (omega (arith, of_digits p e (omega arith) (digits-are b k q)))
+
+  negative : (z : Option ℤ) (m : ℕ) → n ≡ Some m → 0 < m → SomeIff z (FitsSigned w32 (neg_ℤ (pos m))) (neg_ℤ (pos m)) → Part i32 bytes z
+  negative z zero e some fits = absurd (omega arith)
+  negative (Some x) (suc m) e some fits = record { sound = is; complete = whole }
+    where
+      is : (y : ℤ) → Some x ≡ Some y → Within i32 y × (number y ≡ bytes)
+      is y q =
+          let same : negsuc m ≡ y = sym fits.1 ∙ (let inner : x ≡ y = cc in inner) in
+          let text : number (negsuc m) ≡ bytes = ap (λ (l : List ℕ). 45 ∷ l) (text-of p e) ∙ sym b in
+          subst (λ (y : ℤ). Within i32 y × (number y ≡ bytes)) same (omega (arith, fits.0), text)
+
+      whole : (y : ℤ) → Within i32 y → number y ≡ bytes → Some x ≡ Some y
+      whole (pos k) h q = absurd (not-plus b k q)
+      whole (negsuc k) h q = ap Some (fits.1 ∙ ap negsuc (suc_inj (of_digits p e (omega arith) (digits-are b k q))))
+  negative None (suc m) e some fits = record { sound = λ y q. absurd (cc); complete = whole }
+    where
+      whole : (y : ℤ) → Within i32 y → number y ≡ bytes → None ≡ Some y
+      whole (pos k) h q = absurd (not-plus b k q)
+      whole (negsuc k) h q = absurd (fits (omega (arith, of_digits p e (omega arith) (digits-are b k q))))
+
+  pub minus_some : {z : Option ℤ} {m : ℕ} → n ≡ Some m → 0 < m → SomeIff z (FitsSigned w32 (pos 0 -ℤ pos m)) (pos 0 -ℤ pos m) → Part i32 bytes z
+  minus_some {z} {m} e some fits = negative z m e some (rw +ℤ_idl at fits)

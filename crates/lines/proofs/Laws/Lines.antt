@@ -1,51 +1,25 @@
 -- Laws of the lines of calls.
---     nothing-more     the letter alone
---     settings-whole   the fields of S
---     begins-line      a line by its first byte
 --     call_of, call_back      the call of a letter and its numbers
---     line-call        a call whose fields were read is the line's
---     line-none        with the fields unread, the line is no call's
---     insert-none      the same of I: unread both without an ink and with one
---     line-empty, line_other      a line that is empty, or of no letter
-use Rattle.std.specs.Prelude.{◌≡◌, refl, List, [], ◌∷◌, ◌++◌, Bool, true, false, cond, ◌&&◌, ℕ, ◌+◌, ◌≤◌, ℤ, pos, nat_abs, leb, eqb, length, drop, get_or}
-use Rattle.std.proofs.Common.{ap, sym, subst, ◌∙◌, arith, length-drop, leb-true, le-leb}
-use Rattle.arithmetic.proofs.Laws.Tests.{by_bool, true_false}
+--     call-some, call-last    a call whose fields were read, to the end of the bytes
+--     call-none, call-more    with fields unread, or bytes after them, it is no call
+--     insert-none, insert-last      the same of I, where an ink may follow
+--     settings-last           the fields of S
+--     call-nothing            the letter alone
+use Rattle.std.specs.Prelude.{◌≡◌, refl, List, [], ◌∷◌, ◌++◌, Bool, Option, Some, None, cond, ℕ, ◌+◌, ℤ, pos, nat_abs, eqb}
+use Rattle.std.specs.Prelude.{length, get_or}
+use Rattle.std.specs.Bool.{then_some}
+use Rattle.std.proofs.Common.{ap, sym, subst, ◌∙◌, eqb-true}
+use Rattle.std.proofs.lemmas.Bool.{eqb-false}
+use Rattle.arithmetic.proofs.Laws.Tests.{by_bool}
 use Rattle.geometry.specs.declared.aabb.AABB.{AABB}
+use Rattle.geometry.specs.declared.settings.Settings.{Settings as Made}
 use Rattle.model.specs.declared.Dot.{Dot}
-use Rattle.lines.specs.Text.{Kind, WithinAll, fields}
-use Rattle.lines.specs.Reading.{ReadsAt, Whole}
-use Rattle.lines.specs.Lines.{letter, kinds, values, four, three, Begins, NumbersOf, LineOf}
-use Rattle.lines.proofs.Laws.Digits.{begins, same-tail, same_head}
-use Rattle.lines.proofs.Laws.Fields.{then_at, reads_whole}
+use Rattle.lines.specs.Text.{Kind, u32, WithinAll, fields}
+use Rattle.lines.specs.Reading.{Ends, Reads}
+use Rattle.lines.specs.Lines.{letter, kinds, values, four, three, CallOf}
+use Rattle.lines.proofs.Laws.Fields.{reads_then, reads_less, all-read, unread, overlong}
 use Rattle.lines.specs.declared.line.Call.{Call}
 use Rattle.lines.specs.declared.line.Call.TheVariants.{Settings, Insert, InsertInk, Remove, Cleanup, Query}
-use Rattle.lines.specs.declared.line.Line.TheVariants as line
-
--- nothing after the letter
-pub nothing-more : (bytes : List ℕ) → Whole [] (drop 1 bytes) (leb (length bytes) 1) []
-unfolding fields
-nothing-more bytes = record {
-  sound = λ t. (tt, empty (drop 1 bytes) (omega (arith, length-drop 1 bytes, leb-true (length bytes) 1 t)));
-  complete = λ ys w e. let none = no_fields ys w in
-      (le-leb (length bytes) 1 (omega (arith, length-drop 1 bytes, ap length (e ∙ ap fields none))), sym none);
-}
-  where
-    empty : (bs : List ℕ) → length bs ≡ 0 → bs ≡ []
-    empty [] e = refl
-    empty (b ∷ bs) e = absurd (omega arith)
-
-    no_fields : (ys : List ℤ) → WithinAll [] ys → ys ≡ []
-    no_fields [] w = refl
-    no_fields (y ∷ ys) w = absurd w
-
--- the fields of S: four integers, each as it is read back from its bits, and three numbers, to the line's end
-pub settings-whole : {line : List ℕ} {at n₁ n₂ : ℕ} {f g : Bool} {a b c d a' b' c' d' : ℤ} {limits : List ℤ} → ReadsAt four line at f (a ∷ b ∷ c ∷ d ∷ []) n₁
-    → ReadsAt three line n₁ g limits n₂ → a' ≡ a → b' ≡ b → c' ≡ c → d' ≡ d
-    → Whole (four ++ three) (drop at line) ((f && g) && eqb n₂ (length line)) (a' ∷ b' ∷ c' ∷ d' ∷ limits)
-settings-whole root limits ea eb ec ed = rw (ea, eb, ec, ed) (reads_whole (then_at root limits))
-
-pub begins-line : (bytes : List ℕ) (l : ℕ) → length bytes ≤ 80 → (length bytes ≡ 0 → ⊥) → get_or bytes 0 0 ≡ l → Begins l bytes
-begins-line bytes l few some first = record { few = few; some = omega arith; first = begins bytes l some first }
 
 -- ---- the call of a letter and its numbers
 
@@ -85,52 +59,75 @@ call_back (Remove id r) = refl
 call_back Cleanup = refl
 call_back (Query r) = refl
 
--- ---- what a line says
+-- ---- what follows the letter
 
-pub line-call : (c : Call) {bytes : List ℕ} {ok : Bool} → Begins (letter c) bytes → NumbersOf c bytes ok → ok ≡ true → LineOf bytes (line.Call c)
-line-call c b w t = let s = w.sound t in (b.few, s.0, ap (λ (l : List ℕ). letter c ∷ l) (sym s.1) ∙ sym b.first)
+-- no numbers of a call of the letter
+no_call : {l : ℕ} {bytes : List ℕ} → ((zs : List ℤ) → WithinAll (kinds (call_of l zs)) zs → fields zs ≡ bytes → ⊥) → CallOf l bytes None
+no_call {l} none = λ c same fits e.
+    let is : c ≡ call_of l (values c) = sym (call_back c) ∙ ap (λ (k : ℕ). call_of k (values c)) same in
+    none (values c) (subst (λ (d : Call). WithinAll (kinds d) (values c)) is fits) e
 
--- the bytes are no numbers of these types
-unread : {ks : List Kind} {bytes : List ℕ} {ok : Bool} {zs : List ℤ} → Whole ks bytes ok zs → ok ≡ false
-    → (ys : List ℤ) → WithinAll ks ys → bytes ≡ fields ys → ⊥
-unread w f ys fits e = true_false (sym (w.complete ys fits e).0 ∙ f)
+-- the numbers of each call of the letter begin with these types
+abbrev pub Begun : ℕ → List Kind → Type 0
+Begun l ks = (zs : List ℤ) → (ls : List Kind) × (kinds (call_of l zs) ≡ ks ++ ls)
 
--- what follows the letter are no numbers of a call
-line-unread : {l : ℕ} {bytes : List ℕ} → Begins l bytes
-    → ((zs : List ℤ) → WithinAll (kinds (call_of l zs)) zs → drop 1 bytes ≡ fields zs → ⊥) → LineOf bytes line.Unreadable
-line-unread {l} {bytes} b none = λ few c fits e.
-    let same : letter c ∷ fields (values c) ≡ l ∷ drop 1 bytes = e ∙ b.first in
-    let first : letter c ≡ l = same_head (letter c) l (fields (values c)) (drop 1 bytes) same in
-    let rest : fields (values c) ≡ drop 1 bytes = same-tail (letter c) l (fields (values c)) (drop 1 bytes) same in
-    let is : c ≡ call_of l (values c) = sym (call_back c) ∙ ap (λ (k : ℕ). call_of k (values c)) first in
-    none (values c) (subst (λ (d : Call). WithinAll (kinds d) (values c)) is fits) (sym rest)
+pub call-none : {l : ℕ} {ks : List Kind} {bytes rest : List ℕ} → Begun l ks → Reads ks bytes None rest → CallOf l bytes None
+call-none {l} {ks} {rest = rest} begun p = no_call (λ zs fits e.
+    let (ls, same) = begun zs in
+    unread {rest = rest} (reads_less ls p) zs (subst (λ (types : List Kind). WithinAll types zs) same fits) e)
 
--- the lines of a letter all have numbers of these types
-abbrev OneForm : ℕ → List Kind → Type 0
+-- the lines of the letter all have numbers of these types
+abbrev pub OneForm : ℕ → List Kind → Type 0
 OneForm l ks = (zs : List ℤ) → kinds (call_of l zs) ≡ ks
 
-pub line-none : {l : ℕ} {ks : List Kind} {bytes : List ℕ} {ok : Bool} {zs : List ℤ} → Begins l bytes → Whole ks (drop 1 bytes) ok zs → OneForm l ks
-    → ok ≡ false → LineOf bytes line.Unreadable
-line-none b w one f =
-    line-unread b (λ ys fits e. unread w f ys (subst (λ (types : List Kind). WithinAll types ys) (one ys) fits) e)
+module _ (c : Call) {bytes rest : List ℕ} (p : Reads (kinds c) bytes (Some (values c)) rest) where
+  pub call-some : length rest ≡ 0 → CallOf (letter c) bytes (Some c)
+  call-some e = let s = all-read p e in (refl, s.0, s.1)
 
-pub insert-none : (dot : Dot) {bytes : List ℕ} {f g : Bool} → Begins 73 bytes → NumbersOf (Insert dot.id dot.rect) bytes f → f ≡ false
-    → NumbersOf (InsertInk dot) bytes g → g ≡ false → LineOf bytes line.Unreadable
-insert-none dot b v f w g =
-    line-unread b (λ ys fits e. by_bool (eqb (length ys) 6) (λ six. unread w g ys (rw six at fits) e) (λ other. unread v f ys (rw other at fits) e))
+  pub call-more : OneForm (letter c) (kinds c) → (length rest ≡ 0 → ⊥) → CallOf (letter c) bytes None
+  call-more one more =
+      no_call (λ zs fits e. overlong p more zs (subst (λ (types : List Kind). WithinAll types zs) (one zs) fits) e)
 
-pub line-empty : (bytes : List ℕ) → length bytes ≡ 0 → LineOf bytes line.Unreadable
-line-empty bytes h = λ few c fits e. omega (arith, ap length e)
+  pub call-last : {last : Bool} {r : Option Call} → OneForm (letter c) (kinds c) → last ≡ eqb (length rest) 0 → r ≡ then_some last c
+      → CallOf (letter c) bytes r
+  call-last {last} {r} one e is =
+      by_bool (eqb (length rest) 0)
+      (λ t. rw (is, e, t) (call-some (eqb-true (length rest) 0 t)))
+      (λ f. rw (is, e, f) (call-more one (eqb-false (length rest) 0 f)))
 
--- the letters of calls
-pub line_other : (bytes : List ℕ) → (get_or bytes 0 0 ≡ 83 → ⊥) → (get_or bytes 0 0 ≡ 73 → ⊥) → (get_or bytes 0 0 ≡ 68 → ⊥)
-    → (get_or bytes 0 0 ≡ 67 → ⊥) → (get_or bytes 0 0 ≡ 81 → ⊥) → LineOf bytes line.Unreadable
-line_other bytes s i d c q = λ few call fits e. none call (sym (ap (λ (l : List ℕ). get_or l 0 0) e))
+-- the fields of S: four integers, each as it is read back from its bits, and three numbers
+pub settings-last : {s : Made} {bytes r₁ r₂ : List ℕ} {a b c d : ℤ} {last : Bool} {r : Option Call} → r ≡ then_some last (Settings s)
+    → last ≡ eqb (length r₂) 0 → Reads four bytes (Some (a ∷ b ∷ c ∷ d ∷ [])) r₁
+    → Reads three r₁ (Some (pos s.depth_limit ∷ pos s.leaf_limit ∷ pos s.smallest_cell ∷ [])) r₂
+    → s.left ≡ a → s.top ≡ b → s.width ≡ c → s.height ≡ d → CallOf 83 bytes r
+settings-last {s} {r₂ = r₂} is e root limits ea eb ec ed =
+    call-last (Settings s) (rw (ea, eb, ec, ed) (reads_then root limits)) (λ zs. refl) e is
+
+pub call-nothing : {bytes : List ℕ} → Reads [] bytes (Some []) bytes
+unfolding fields
+call-nothing {bytes} = record { sound = λ ys e. let none : [] ≡ ys = cc in rw (← none) (tt, refl); complete = whole }
   where
-    none : (call : Call) → get_or bytes 0 0 ≡ letter call → ⊥
-    none (Settings x) p = s p
-    none (Insert id r) p = i p
-    none (InsertInk x) p = i p
-    none (Remove id r) p = d p
-    none Cleanup p = c p
-    none (Query x) p = q p
+    whole : (ys : List ℤ) (tail : List ℕ) → WithinAll [] ys → Ends tail → bytes ≡ fields ys ++ tail → (Some [] ≡ Some ys) × (bytes ≡ tail)
+    whole [] tail w h e = (refl, e)
+    whole (y ∷ ys) tail w h e = absurd w
+
+-- ---- an insert, with an ink or without
+
+module _ {id : ℕ} {r : AABB} {bytes rest : List ℕ} (p : Reads (kinds (Insert id r)) bytes (Some (values (Insert id r))) rest)
+    (more : length rest ≡ 0 → ⊥) where
+  pub insert-none : {rest' : List ℕ} → Reads (u32 ∷ four ++ (u32 ∷ [])) bytes None rest' → CallOf 73 bytes None
+  insert-none q = no_call (λ zs fits e.
+      by_bool (eqb (length zs) 6) (λ six. unread q zs (rw six at fits) e) (λ other. overlong p more zs (rw other at fits) e))
+
+  insert-more : (dot : Dot) {rest' : List ℕ} → Reads (kinds (InsertInk dot)) bytes (Some (values (InsertInk dot))) rest' → (length rest' ≡ 0 → ⊥)
+      → CallOf 73 bytes None
+  insert-more dot q after = no_call (λ zs fits e.
+      by_bool (eqb (length zs) 6) (λ six. overlong q after zs (rw six at fits) e) (λ other. overlong p more zs (rw other at fits) e))
+
+  pub insert-last : (dot : Dot) {rest' : List ℕ} {last : Bool} {r : Option Call}
+      → Reads (kinds (InsertInk dot)) bytes (Some (values (InsertInk dot))) rest' → last ≡ eqb (length rest') 0
+      → r ≡ then_some last (InsertInk dot) → CallOf 73 bytes r
+  insert-last dot {rest'} q e is =
+      by_bool (eqb (length rest') 0)
+      (λ t. rw (is, e, t) (call-some (InsertInk dot) q (eqb-true (length rest') 0 t)))
+      (λ f. rw (is, e, f) (insert-more dot q (eqb-false (length rest') 0 f)))

@@ -3,7 +3,7 @@
 --     put-line, put-total_line             a line from its parts
 --     row-none, row_more, row_end          no window's line, one more, where they end at most
 --     rows_none, rows_more, rows_end       the same of rows
---     row_below, next_row                  a row's counts lie within those of all rows, and the next row's follow them
+--     row_below                            a row's counts lie within those of all rows
 --     report-written                       the report from its lines
 --     report-length                        how long a report is at most
 use Rattle.std.specs.Prelude.{◌≡◌, List, [], ◌∷◌, ◌++◌, ℕ, zero, suc, ◌+◌, ◌*◌, ◌≤◌, ◌<◌, pos, length, get_or}
@@ -98,9 +98,6 @@ pub row_below : {first : ℕ} (columns rows row : ℕ) → row < rows → first 
 row_below columns rows row h e =
     let step : columns * suc row ≤ columns * rows = mul-le-mul_left columns h in
     omega (arith, step, e, suc-mul row columns, mul_comm columns (suc row))
-
-pub next_row : {first : ℕ} (columns row : ℕ) → first ≡ row * columns → first + columns ≡ (row + 1) * columns
-next_row columns row e = rw add-one (omega (arith, e, suc-mul row columns))
 
 -- ---- all of it
 

@@ -1,20 +1,18 @@
 -- Laws of bytes put into a row.
 --     put-none, put_byte, put_then, put_is              nothing, a byte, one thing after another, the same bytes by another name
---     put_count                                         how long the bytes at a row's front are
---     put_next, put_all                                 a row's next byte, and every byte of it
---     digits_end, put-no_digits, put_digit, put-last_digit     a number's digits, by the three cases of printing
+--     put-copied                                        bytes copied from another row
 --     put_field_lem, field_ends                             a field, and where it ends at most
---     put-nothing, put-more, field_then, fields_end     no number of a row, one more, a field and the others, where they end at most
---     fields-same                                       the fields of the same numbers
---     take_beyond                                       a row, taken further than it goes
+--     put-nothing, put-more, field_then, fields_end     one number more of a row, all of them, a field and the others, where they end at most
 --     written_all, written                              bytes at a row's front; an answer's line: its letter, its fields, its LF
 --     written_fixed                                     what is written fixes every byte of the row
-use Rattle.std.specs.Prelude.{◌≡◌, refl, List, [], ◌∷◌, ◌++◌, map, ℕ, ◌+◌, ◌-◌, ◌*◌, ◌/◌, ◌%◌, ◌<◌, ◌≤◌, ℤ, pos, length, take, drop, get_or, set}
-use Rattle.std.proofs.Common.{ap, ap₂, sym, subst, ◌∙◌, append_assoc, append-nil, arith, add-one, length-append, length-take, take-append-drop, take-suc-set, take-suc, take_all, drop-set-lt, drop-drop}
-use Rattle.std.proofs.Math.Seq.{take-length}
-use Rattle.lines.specs.Text.{digits, decimal, fields, answer}
+use Rattle.std.specs.Prelude.{◌≡◌, refl, List, [], ◌∷◌, ◌++◌, map, ℕ, ◌+◌, ◌*◌, ◌<◌, ◌≤◌, ℤ, pos, length, take, drop, get_or, set}
+use Rattle.std.proofs.Common.{ap, ap₂, sym, subst, ◌∙◌, append_assoc, append-nil, arith, add-one, length-append, length-take, take-append-drop}
+use Rattle.std.proofs.Common.{take-suc-set, take-suc, drop-set-lt, drop-drop}
+use Rattle.std.proofs.lemmas.Slice.{take-put_mid, drop-put_mid}
+use borrow.Rule.Slice.PartMut.{put_mid}
+use Rattle.lines.specs.Text.{decimal, fields, answer}
 use Rattle.lines.specs.Reading.{Put, Output, output, Written}
-use Rattle.lines.proofs.Laws.Digits.{digits-none, digits-few, digits_more, digits-length}
+use Rattle.lines.proofs.Laws.Digits.{digits-length}
 use Rattle.lines.proofs.Laws.Fields.{fields-append}
 
 pub put-none : (row : List ℕ) (at : ℕ) → Put row at [] row at
@@ -37,37 +35,16 @@ put_then {row₀} {row} {row'} {at} {next} {next'} {bs} {cs} p q = record {
 pub put_is : {row₀ row : List ℕ} {at next : ℕ} {bs cs : List ℕ} → bs ≡ cs → Put row₀ at bs row next → Put row₀ at cs row next
 put_is {row₀} {row} {at} {next} e p = subst (λ (l : List ℕ). Put row₀ at l row next) e p
 
--- what stands at the front of a row is as long as it says
-pub put_count : {row₀ row bs : List ℕ} {next : ℕ} → Put row₀ 0 bs row next → next ≡ length (take next row)
-put_count p = omega (arith, p.ends, ap length p.holds)
-
--- the next byte of bytes that are put one by one
-pub put_next : {out₀ out out' : List ℕ} {at next next' : ℕ} (bytes : List ℕ) (i : ℕ) → i < length bytes → Put out₀ at (take i bytes) out next
-    → Put out next (get_or bytes i 0 ∷ []) out' next' → Put out₀ at (take (i + 1) bytes) out' next'
-put_next bytes i h p q = rw add-one (put_is (sym (take-suc bytes i 0 h)) (put_then p q))
-
-pub put_all : {out₀ out : List ℕ} {at next : ℕ} (bytes : List ℕ) (i : ℕ) → length bytes ≤ i → Put out₀ at (take i bytes) out next
-    → Put out₀ at bytes out next
-put_all bytes i h p = put_is (take_all i bytes h) p
-
--- ---- digits
-
--- what omega is handed of digits that were put
-pub digits_end : {row₀ row : List ℕ} {at next : ℕ} (places n : ℕ) → Put row₀ at (digits places n) row next → next ≤ at + places
-digits_end places n p = omega (arith, p.ends, digits-length places n)
-
-pub put-no_digits : (row : List ℕ) (at places n : ℕ) → places ≡ 0 → Put row at (digits places n) row at
-put-no_digits row at places n e = put_is (sym (digits-none places n e)) (put-none row at)
-
-pub put_digit : (row : List ℕ) (at places n : ℕ) → at + places ≤ length row → (places ≡ 0 → ⊥) → n < 10
-    → Put row at (digits places n) (set row at (48 + n)) (at + 1)
-put_digit row at places n fit some few = put_is (sym (digits-few places n some few)) (put_byte row at (48 + n) (omega arith))
-
-pub put-last_digit : {row₀ row : List ℕ} {at next : ℕ} (places n : ℕ) → at + places ≤ length row₀ → (places ≡ 0 → ⊥) → 10 ≤ n
-    → length row ≡ length row₀ → Put row₀ at (digits (places - 1) (n / 10)) row next
-    → Put row₀ at (digits places n) (set row next (48 + n % 10)) (next + 1)
-put-last_digit {row₀} {row} {at} {next} places n fit some more kept p =
-    put_is (sym (digits_more places n some more)) (put_then p (put_byte row next (48 + n % 10) (omega (arith, digits_end (places - 1) (n / 10) p))))
+-- a part of the row is written with the bytes
+pub put-copied : {row bytes part : List ℕ} {at end size : ℕ} → end ≡ at + length bytes → end ≤ length row → size ≡ length bytes → part ≡ bytes
+    → Put row at bytes (put_mid at size row part) end
+put-copied {row} {bytes} {part} {at} {end} {size} e fits same copied =
+    let long : length part ≡ length bytes = ap length copied in
+    record {
+      ends = e;
+      holds = take-put_mid at size row part end (omega arith) (omega arith) ∙ ap (λ (l : List ℕ). take at row ++ l) copied;
+      kept = drop-put_mid at size row part end (omega arith) (omega arith) (omega arith);
+    }
 
 -- ---- fields
 
@@ -81,13 +58,12 @@ unfolding fields
 fields-length [] = omega arith
 fields-length (n ∷ ns) = omega (arith, length-append (decimal n) (fields (map pos ns)), digits-length 10 n, fields-length ns)
 
--- what omega is handed of a field, or of the first fields of a row, that was put
+-- what omega is handed of a field, or of the fields of numbers, that was put
 pub field_ends : {row₀ row : List ℕ} {at next : ℕ} (n : ℕ) → Put row₀ at (fields (pos n ∷ [])) row next → next ≤ at + 11
 field_ends n p = omega (arith, p.ends, fields-length (n ∷ []))
 
-pub fields_end : {row₀ row : List ℕ} {at next : ℕ} (count : ℕ) (ns : List ℕ) → Put row₀ at (fields (map pos (take count ns))) row next
-    → next ≤ at + 11 * length ns
-fields_end count ns p = omega (arith, p.ends, fields-length (take count ns), length-take count ns)
+pub fields_end : {row₀ row : List ℕ} {at next : ℕ} (ns : List ℕ) → Put row₀ at (fields (map pos ns)) row next → next ≤ at + 11 * length ns
+fields_end ns p = omega (arith, p.ends, fields-length ns)
 
 -- a field and then the others
 pub field_then : {row₀ row row' : List ℕ} {at next next' : ℕ} (z : ℤ) (zs : List ℤ) → Put row₀ at (fields (z ∷ [])) row next
@@ -98,28 +74,25 @@ pub fields-same : {row₀ row ms ns : List ℕ} {at next : ℕ} → ms ≡ ns �
     → Put row₀ at (fields (map pos ns)) row next
 fields-same e p = put_is (ap (λ (l : List ℕ). fields (map pos l)) e) p
 
-pub put-nothing : (row out : List ℕ) (at : ℕ) → Put out at (fields (map pos (take 0 row))) out at
+pub put-nothing : (out : List ℕ) (at : ℕ) → Put out at (fields []) out at
 unfolding fields
-put-nothing row out at = put-none out at
+put-nothing out at = put-none out at
 
 map_snoc : (ns : List ℕ) (n : ℕ) → map pos (ns ++ (n ∷ [])) ≡ map pos ns ++ (pos n ∷ [])
 map_snoc [] n = refl
 map_snoc (m ∷ ns) n = ap (λ (l : List ℤ). pos m ∷ l) (map_snoc ns n)
 
 -- the field of a row's next number
-pub put-more : {out₀ out out' : List ℕ} {at next next' : ℕ} (row : List ℕ) (i count : ℕ) → i < count → count ≤ length row
+pub put-more : {out₀ out out' : List ℕ} {at next next' : ℕ} (row : List ℕ) (i : ℕ) → i < length row
     → Put out₀ at (fields (map pos (take i row))) out next → Put out next (fields (pos (get_or row i 0) ∷ [])) out' next'
     → Put out₀ at (fields (map pos (take (i + 1) row))) out' next'
-put-more row i count below within p q =
-    let one : take i row ++ (get_or row i 0 ∷ []) ≡ take (i + 1) row = rw add-one (sym (take-suc row i 0 (omega arith))) in
+put-more row i below p q =
+    let one : take i row ++ (get_or row i 0 ∷ []) ≡ take (i + 1) row = rw add-one (sym (take-suc row i 0 below)) in
     let both : fields (map pos (take i row)) ++ fields (pos (get_or row i 0) ∷ []) ≡ fields (map pos (take i row ++ (get_or row i 0 ∷ []))) =
     rw map_snoc (sym (fields-append (map pos (take i row)) (pos (get_or row i 0) ∷ []))) in
     put_is (both ∙ ap (λ (l : List ℕ). fields (map pos l)) one) (put_then p q)
 
 -- ---- answers
-
-pub take_beyond : (row : List ℕ) (n : ℕ) → length row < n → take (length row) row ≡ take n row
-take_beyond row n h = take-length row ∙ sym (take_all n row (omega arith))
 
 -- bytes put at a row's front
 pub written_all : {row₀ row bs : List ℕ} {next : ℕ} → Put row₀ 0 bs row next → Written (output row₀ row next) bs

@@ -2,7 +2,7 @@
 --     number-one, fields-one   numbers of one type, and lists of them, by their text
 --     text-one                 calls
 --     line-one                 so a line says one thing
-use Rattle.std.specs.Prelude.{◌≡◌, refl, List, [], ◌∷◌, ◌++◌, ℕ, suc, ◌<◌, ◌^◌, ℤ, pos, negsuc, length}
+use Rattle.std.specs.Prelude.{◌≡◌, refl, List, [], ◌∷◌, ◌++◌, ℕ, suc, ◌<◌, ◌^◌, ℤ, pos, negsuc, length, Option, Some, None}
 use Rattle.std.proofs.Common.{ap, ap₂, sym, subst, ◌∙◌, append-nil, arith}
 use Rattle.std.proofs.Math.Nat.{suc_inj}
 use Rattle.lines.specs.Text.{decimal, number, Kind, u32, i32, Within, WithinAll, fields}
@@ -12,8 +12,6 @@ use Rattle.lines.proofs.Laws.Digits.{Plain, digits-plain, digits_value, same_hea
 use Rattle.lines.proofs.Laws.Fields.{number_until, fields-ends}
 use Rattle.lines.proofs.Laws.Lines.{call_of, call_back}
 use Rattle.lines.specs.declared.line.Call.{Call}
-use Rattle.lines.specs.declared.line.Line.{Line}
-use Rattle.lines.specs.declared.line.Line.TheVariants as line
 
 -- ---- numbers
 
@@ -67,8 +65,8 @@ text-one c d p q e =
     let numbers = fields-one (kinds c) (kinds d) (values c) (values d) p q (same-tail (letter c) (letter d) _ _ e) in
     sym (call_back c) ∙ ap₂ call_of same numbers ∙ call_back d
 
-pub line-one : (bytes : List ℕ) (l m : Line) → LineOf bytes l → LineOf bytes m → l ≡ m
-line-one bytes (line.Call c) (line.Call d) p q = ap line.Call (text-one c d p.1 q.1 (p.2 ∙ sym q.2))
-line-one bytes (line.Call c) line.Unreadable p q = absurd (q p.0 c p.1 p.2)
-line-one bytes line.Unreadable (line.Call d) p q = absurd (p q.0 d q.1 q.2)
-line-one bytes line.Unreadable line.Unreadable p q = refl
+pub line-one : (bytes : List ℕ) (l m : Option Call) → LineOf bytes l → LineOf bytes m → l ≡ m
+line-one bytes (Some c) (Some d) p q = ap Some (text-one c d p.1 q.1 (p.2 ∙ sym q.2))
+line-one bytes (Some c) None p q = absurd (q p.0 c p.1 p.2)
+line-one bytes None (Some d) p q = absurd (p q.0 d q.1 q.2)
+line-one bytes None None p q = refl

@@ -22,11 +22,11 @@ module _ (bytes : List ℕ) (done put : ℕ) where
       → Appends a c (take (done + put) bytes)
   written a b c p q = subst (λ (bs : List ℕ). Appends a c bs) joined (Appends-trans a b c _ _ p q)
 
-pub loop-turns-preserved : goal.loop-turns-preserved
-loop-turns-preserved g c =
+pub loop-preserved : goal.loop-preserved
+loop-preserved g c =
     let bytes = c.args.bytes.now in
-    let done = c.loop-turns.done in
-    let (fits, so_far, kept) = c.loop-turns.invariant in
+    let done = c.loop.done in
+    let (fits, so_far, kept) = c.loop.invariant in
     elim c.match-write.branch [
       | in-Ok w ↦ rw w.done-is (
         within bytes done w.in-Ok.put fits w.in-Ok.ensures.bound,

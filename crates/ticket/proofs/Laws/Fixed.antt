@@ -3,7 +3,7 @@
 --     turned_fixed         a later line of gridreport
 --     started_fixed        the first line
 -- Where a call is made, it must be told whether the memory is a tree; its own check tells it (§11.3).
-use Rattle.std.specs.Prelude.{◌≡◌, ◌⊎◌, ℕ, length}
+use Rattle.std.specs.Prelude.{◌≡◌, ◌⊎◌, ℕ, length, Option, Some, None}
 use Rattle.std.proofs.Math.Path.{refl, ap, sym}
 use Rattle.std.proofs.Common.{ap₂, subst, ◌∙◌}
 use mathlib.Core.List.{List, []}
@@ -21,10 +21,7 @@ use Rattle.lines.proofs.Laws.Rows.{written_fixed}
 use Rattle.lines.proofs.Laws.Texts.{line-one}
 use Rattle.lines.proofs.Laws.Grids.{grid_line_one}
 use Rattle.lines.specs.declared.line.Call.TheVariants as call
-use Rattle.lines.specs.declared.line.Line.{Line}
-use Rattle.lines.specs.declared.line.Line.TheVariants as line
-use Rattle.lines.specs.declared.grid_line.GridLine.{GridLine}
-use Rattle.lines.specs.declared.grid_line.GridLine.TheVariants as grid_line
+use Rattle.lines.specs.declared.line.Call.{Call}
 use Rattle.ticket.specs.declared.Start.{Start}
 use Rattle.ticket.specs.declared.Start.TheVariants as start
 use Rattle.ticket.specs.Ticket.{reply_line, refusal_line, listing, plain_dot, InsertLine, Nine, LineAnswer, Answered}
@@ -53,23 +50,23 @@ module _ (o p : Output) (before : o.before ≡ p.before) where
         let e = obeys_fixed _ (insert_rule dot) w [] (exit w₁ [] c.reply) (exit w₂ [] d.reply) tree? c.call d.call in
         (ap (λ x. x.world) e, m.0 ∙ sym n.0, replies _ _ _ _ refl (ap (λ x. x.reply) e) c.line d.line)
 
-    answer_fixed : (l : Line) → LineAnswer w row l w₁ row₁ o → LineAnswer w row l w₂ row₂ p → (w₁ ≡ w₂) × (row₁ ≡ row₂) × (o ≡ p)
+    answer_fixed : (l : Option Call) → LineAnswer w row l w₁ row₁ o → LineAnswer w row l w₂ row₂ p → (w₁ ≡ w₂) × (row₁ ≡ row₂) × (o ≡ p)
     unfolding Remove Cleanup Query
-    answer_fixed line.Unreadable m n = nine m n
-    answer_fixed (line.Call (call.Settings s)) m n = nine m.answer n.answer
-    answer_fixed (line.Call (call.Insert id r)) m n = insert_fixed (plain_dot id r) m.answer n.answer
-    answer_fixed (line.Call (call.InsertInk dot)) m n = insert_fixed dot m.answer n.answer
-    answer_fixed (line.Call (call.Remove id r)) m n =
+    answer_fixed None m n = nine m n
+    answer_fixed (Some (call.Settings s)) m n = nine m.answer n.answer
+    answer_fixed (Some (call.Insert id r)) m n = insert_fixed (plain_dot id r) m.answer n.answer
+    answer_fixed (Some (call.InsertInk dot)) m n = insert_fixed dot m.answer n.answer
+    answer_fixed (Some (call.Remove id r)) m n =
         let c = m.answer.1 in
         let d = n.answer.1 in
         let e = obeys_fixed _ (remove_rule id r) w [] (exit w₁ [] c.reply) (exit w₂ [] d.reply) tree? c.call d.call in
         (ap (λ x. x.world) e, m.answer.0 ∙ sym n.answer.0, replies _ _ _ _ refl (ap (λ x. x.reply) e) c.line d.line)
-    answer_fixed (line.Call call.Cleanup) m n =
+    answer_fixed (Some call.Cleanup) m n =
         let c = m.answer.1 in
         let d = n.answer.1 in
         let e = obeys_fixed _ cleanup_rule w [] (exit w₁ [] c.reply) (exit w₂ [] d.reply) tree? c.call d.call in
         (ap (λ x. x.world) e, m.answer.0 ∙ sym n.answer.0, replies _ _ _ _ refl (ap (λ x. x.reply) e) c.line d.line)
-    answer_fixed (line.Call (call.Query r)) m n =
+    answer_fixed (Some (call.Query r)) m n =
         let c = m.answer in
         let d = n.answer in
         let e = obeys_fixed _ _ w row (exit w₁ row₁ c.reply) (exit w₂ row₂ d.reply) tree? c.call d.call in
@@ -80,7 +77,7 @@ pub answered_fixed : (w : World) (row input : List ℕ) → TreeOrNone w → (w�
     → Answered w row input w₁ row₁ o → Answered w row input w₂ row₂ p → (w₁ ≡ w₂) × (row₁ ≡ row₂) × (o ≡ p)
 answered_fixed w row input tree? w₁ w₂ row₁ row₂ o p before m n =
     let one = line-one input n.says m.says n.is m.is in
-    answer_fixed o p before w row tree? w₁ w₂ row₁ row₂ m.says m.answer (subst (λ (l : Line). LineAnswer w row l w₂ row₂ p) one n.answer)
+    answer_fixed o p before w row tree? w₁ w₂ row₁ row₂ m.says m.answer (subst (λ (l : Option Call). LineAnswer w row l w₂ row₂ p) one n.answer)
 
 module _ (w : World) (row input : List ℕ) (tree? : TreeOrNone w) (r₁ r₂ : Start) (w₁ w₂ : World) (row₁ row₂ : List ℕ) (o p : Output)
     (before : o.before ≡ p.before) where
@@ -92,19 +89,19 @@ module _ (w : World) (row input : List ℕ) (tree? : TreeOrNone w) (r₁ r₂ : 
       let lines = replies o p before _ _ _ _ (ap (report (columns_of g) (rows_of g)) rows) (ap (λ x. x.reply) e) m.line n.line in
       (ap (λ x. x.world) e, rows, lines)
 
-  turn_fixed : (l : GridLine) → TurnAnswer w row input l r₁ w₁ row₁ o → TurnAnswer w row input l r₂ w₂ row₂ p
+  turn_fixed : (l : Option Grid) → TurnAnswer w row input l r₁ w₁ row₁ o → TurnAnswer w row input l r₂ w₂ row₂ p
       → (r₁ ≡ r₂) × (w₁ ≡ w₂) × (row₁ ≡ row₂) × (o ≡ p)
-  turn_fixed (grid_line.Grid g) m n =
+  turn_fixed (Some g) m n =
       let same = grid_fixed g m.1 n.1 in
       (m.0 ∙ ap (λ (x : Output). start.Ended x.next) same.2 ∙ sym n.0, same.0, same.1, same.2)
-  turn_fixed grid_line.Other m n =
+  turn_fixed None m n =
       let same = answered_fixed w row input tree? w₁ w₂ row₁ row₂ o p before m.1 n.1 in
       (m.0 ∙ (λ i. start.Going (same.0 i).state (same.2 i).next) ∙ sym n.0, same.0, same.1, same.2)
 
   pub turned_fixed : Turned w row input r₁ w₁ row₁ o → Turned w row input r₂ w₂ row₂ p → (r₁ ≡ r₂) × (w₁ ≡ w₂) × (row₁ ≡ row₂) × (o ≡ p)
   turned_fixed m n =
       let one = grid_line_one input n.says m.says n.is m.is in
-      turn_fixed m.says m.answer (subst (λ (l : GridLine). TurnAnswer w row input l r₂ w₂ row₂ p) one n.answer)
+      turn_fixed m.says m.answer (subst (λ (l : Option Grid). TurnAnswer w row input l r₂ w₂ row₂ p) one n.answer)
 
 module _ (w : World) (r₁ r₂ : Start) (w₁ w₂ : World) (o p : Output) (before : o.before ≡ p.before) where
   no_start : NoStart w r₁ w₁ o → NoStart w r₂ w₂ p → (r₁ ≡ r₂) × (w₁ ≡ w₂) × (o ≡ p)
@@ -118,16 +115,16 @@ module _ (w : World) (r₁ r₂ : Start) (w₁ w₂ : World) (o p : Output) (bef
       let outs = replies o p before _ _ _ _ refl e.1 m.line n.line in
       (m.goes ∙ (λ i. start_of (e.1 i) (e.0 i).state (outs i).next) ∙ sym n.goes, e.0, outs)
 
-  first_fixed : (l : Line) → FirstAnswer w l r₁ w₁ o → FirstAnswer w l r₂ w₂ p → (r₁ ≡ r₂) × (w₁ ≡ w₂) × (o ≡ p)
-  first_fixed line.Unreadable m n = no_start m n
-  first_fixed (line.Call (call.Settings s)) m n = make-line s m n
-  first_fixed (line.Call (call.Insert id r)) m n = no_start m n
-  first_fixed (line.Call (call.InsertInk dot)) m n = no_start m n
-  first_fixed (line.Call (call.Remove id r)) m n = no_start m n
-  first_fixed (line.Call call.Cleanup) m n = no_start m n
-  first_fixed (line.Call (call.Query r)) m n = no_start m n
+  first_fixed : (l : Option Call) → FirstAnswer w l r₁ w₁ o → FirstAnswer w l r₂ w₂ p → (r₁ ≡ r₂) × (w₁ ≡ w₂) × (o ≡ p)
+  first_fixed None m n = no_start m n
+  first_fixed (Some (call.Settings s)) m n = make-line s m n
+  first_fixed (Some (call.Insert id r)) m n = no_start m n
+  first_fixed (Some (call.InsertInk dot)) m n = no_start m n
+  first_fixed (Some (call.Remove id r)) m n = no_start m n
+  first_fixed (Some call.Cleanup) m n = no_start m n
+  first_fixed (Some (call.Query r)) m n = no_start m n
 
   pub started_fixed : (input : List ℕ) → Started w input r₁ w₁ o → Started w input r₂ w₂ p → (r₁ ≡ r₂) × (w₁ ≡ w₂) × (o ≡ p)
   started_fixed input m n =
       let one = line-one input n.says m.says n.is m.is in
-      first_fixed m.says m.answer (subst (λ (l : Line). FirstAnswer w l r₂ w₂ p) one n.answer)
+      first_fixed m.says m.answer (subst (λ (l : Option Call). FirstAnswer w l r₂ w₂ p) one n.answer)

@@ -2,7 +2,7 @@
 --     call-settings, call-insert, call-insert_ink, call-remove, call-cleanup, call-query        a call of a later line
 --     line-call, line_unreadable       a later line
 --     first-settings, first-call, first_unreadable     the first line: an `S`, another call, none
-use Rattle.std.specs.Prelude.{◌≡◌, refl, List, Bool, true, false, ℕ, ℤ}
+use Rattle.std.specs.Prelude.{◌≡◌, refl, List, Bool, true, false, Option, Some, None, ℕ, ℤ}
 use Rattle.std.proofs.Common.{ap, subst, ◌∙◌, arith}
 use Rattle.geometry.specs.declared.aabb.AABB.{AABB}
 use Rattle.geometry.specs.declared.settings.Settings.{Settings}
@@ -15,8 +15,6 @@ use Rattle.lines.specs.Reading.{Output, Written}
 use Rattle.lines.specs.Lines.{LineOf}
 use Rattle.lines.specs.declared.line.Call.{Call}
 use Rattle.lines.specs.declared.line.Call.TheVariants as call
-use Rattle.lines.specs.declared.line.Line.{Line}
-use Rattle.lines.specs.declared.line.Line.TheVariants as line
 use Rattle.ticket.specs.declared.Start.{Start}
 use Rattle.ticket.specs.declared.Start.TheVariants as start
 use Rattle.ticket.specs.Ticket.{refusal_line, plain_dot, InsertLine, RemoveLine, CleanupLine, QueryLine, Called, Answered}
@@ -47,14 +45,14 @@ module _ {s s' : State} {nodes dots : List ℕ} {rects : List ℤ} {marks row : 
       → Called (world s nodes dots rects marks) row c (world s' nodes dots rects marks) row out
   call-settings e k l = rw e (record { answer = (ap (λ (x : State). world x nodes dots rects marks) k, refl, l) })
 
-  pub line_unreadable : {l : Line} {input : List ℕ} → l ≡ line.Unreadable → LineOf input l → s' ≡ s → Written out (refusal_line 9)
+  pub line_unreadable : {l : Option Call} {input : List ℕ} → l ≡ None → LineOf input l → s' ≡ s → Written out (refusal_line 9)
       → Answered (world s nodes dots rects marks) row input (world s' nodes dots rects marks) row out
   line_unreadable e h k b =
-      record { says = line.Unreadable; is = rw e at h; answer = (ap (λ (x : State). world x nodes dots rects marks) k, refl, b) }
+      record { says = None; is = rw e at h; answer = (ap (λ (x : State). world x nodes dots rects marks) k, refl, b) }
 
-pub line-call : {w w' : World} {row row' input : List ℕ} {out : Output} {l : Line} {c : Call} → l ≡ line.Call c → LineOf input l
+pub line-call : {w w' : World} {row row' input : List ℕ} {out : Output} {l : Option Call} {c : Call} → l ≡ Some c → LineOf input l
     → Called w row c w' row' out → Answered w row input w' row' out
-line-call {c = c} e h a = record { says = line.Call c; is = rw e at h; answer = a }
+line-call {c = c} e h a = record { says = Some c; is = rw e at h; answer = a }
 
 -- ---- the first line, whatever the state before it
 
@@ -72,26 +70,26 @@ no_start : {nodes dots : List ℕ} {rects : List ℤ} {marks : List ℕ} {r : St
 no_start {nodes} {dots} {rects} {marks} ends nine before =
     record { ends = ends; kept = ap (λ (x : Start). world (after_start before x) nodes dots rects marks) ends; line = nine }
 
-module _ {nodes dots : List ℕ} {rects : List ℤ} {marks : List ℕ} {input : List ℕ} {r : Start} {out : Output} {l : Line} where
+module _ {nodes dots : List ℕ} {rects : List ℤ} {marks : List ℕ} {input : List ℕ} {r : Start} {out : Output} {l : Option Call} where
   pub first-settings : {nodes' dots' : List ℕ} {rects' : List ℤ} {marks' : List ℕ} {c : Call} {x : Settings}
-      → l ≡ line.Call c → c ≡ call.Settings x → LineOf input l
+      → l ≡ Some c → c ≡ call.Settings x → LineOf input l
       → ((before : State) → MakeLine (world before nodes dots rects marks) x r (world (after_start before r) nodes' dots' rects' marks') out)
       → (before : State) → Started (world before nodes dots rects marks) input r (world (after_start before r) nodes' dots' rects' marks') out
   first-settings {x = x} e f h m before =
-      record { says = line.Call (call.Settings x); is = rw (e ∙ ap line.Call f) at h; answer = m before }
+      record { says = Some (call.Settings x); is = rw (e ∙ ap Some f) at h; answer = m before }
 
-  pub first_unreadable : l ≡ line.Unreadable → LineOf input l → r ≡ start.Ended out.next → Written out (refusal_line 9)
+  pub first_unreadable : l ≡ None → LineOf input l → r ≡ start.Ended out.next → Written out (refusal_line 9)
       → (before : State) → Started (world before nodes dots rects marks) input r (world (after_start before r) nodes dots rects marks) out
-  first_unreadable e h ends nine before = record { says = line.Unreadable; is = rw e at h; answer = no_start ends nine before }
+  first_unreadable e h ends nine before = record { says = None; is = rw e at h; answer = no_start ends nine before }
 
-  pub first-call : {c c' : Call} → l ≡ line.Call c → c ≡ c' → is_settings c' ≡ false → LineOf input l
+  pub first-call : {c c' : Call} → l ≡ Some c → c ≡ c' → is_settings c' ≡ false → LineOf input l
       → r ≡ start.Ended out.next → Written out (refusal_line 9)
       → (before : State) → Started (world before nodes dots rects marks) input r (world (after_start before r) nodes dots rects marks) out
   first-call {c} {c'} e f other h ends nine before =
-      record { says = line.Call c'; is = rw (e ∙ ap line.Call f) at h; answer = go c' other }
+      record { says = Some c'; is = rw (e ∙ ap Some f) at h; answer = go c' other }
     where
       go : (d : Call) → is_settings d ≡ false
-          → FirstAnswer (world before nodes dots rects marks) (line.Call d) r (world (after_start before r) nodes dots rects marks) out
+          → FirstAnswer (world before nodes dots rects marks) (Some d) r (world (after_start before r) nodes dots rects marks) out
       go (call.Settings s) z = let no : ◌≡◌ {A = ℕ} 0 1 = cc in absurd (omega arith)
       go (call.Insert id q) z = no_start ends nine before
       go (call.InsertInk dot) z = no_start ends nine before

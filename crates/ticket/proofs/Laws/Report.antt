@@ -1,10 +1,10 @@
 -- The answers to a later line of gridreport, case by case, and what they say of the tree.
---     grid_refused, grid_many, grid_reported   the report's answer, and the line that was written for it
+--     grid_refused, grid_reported   the report's answer, and the line that was written for it
 --     report-asks  what the writing of a report asks, of an accepted one
 --     turn_grid, turn_other        a grid's line, and any other
 --     report-lines THE LAW: the bytes of an accepted report are the lines of the grid's windows on the tree, and their total
 --     grid_nine    a ticket's answer to a grid's line
-use Rattle.std.specs.Prelude.{◌≡◌, refl, List, ◌++◌, ℕ, ◌+◌, ◌*◌, ◌^◌, ◌≤◌, ◌<◌, ℤ, length, get_or, drop}
+use Rattle.std.specs.Prelude.{◌≡◌, refl, List, ◌++◌, Option, Some, None, Result, Ok, Err, ℕ, ◌+◌, ◌*◌, ◌^◌, ◌≤◌, ◌<◌, ℤ, length, get_or, drop}
 use Rattle.std.proofs.Common.{ap, ap₂, subst, subst₂, sym, ◌∙◌, mul_comm, arith}
 use Rattle.grid.specs.declared.grid.Grid.{Grid}
 use Rattle.grid.specs.Grids.{columns_of, rows_of, windows}
@@ -14,10 +14,10 @@ use Rattle.model.specs.Lists.{join_over}
 use Rattle.model.specs.Shapes.{Shape}
 use Rattle.model.specs.Layout.{World, world, Holds}
 use Rattle.model.specs.Grid.{WindowLine, window_count, grid_counts, grid_lines, grid_total}
-use Rattle.model.specs.Calls.{refused, too_many, answered, GridReport}
-use Rattle.model.specs.Answers.{grid_reply}
-use Rattle.model.specs.declared.answers.GridAnswer.{GridAnswer}
-use Rattle.model.specs.declared.answers.GridAnswer.TheVariants as grid
+use Rattle.model.specs.declared.refusal.Refusal.{Refusal}
+use Rattle.model.specs.Refusals.{number_of, refusal_reply}
+use Rattle.model.specs.Calls.{answered, GridReport}
+use Rattle.model.specs.Answers.{number_reply}
 use Rattle.model.proofs.Laws.Lists.{join_below_ext}
 use Rattle.model.proofs.Laws.Grid.{counts-cell, join-windows}
 use Rattle.model.proofs.Laws.Reports.{grid_sized, grid_room, grid_small, grid_exit}
@@ -26,23 +26,19 @@ use Rattle.lines.specs.Reading.{Output, output, Written}
 use Rattle.lines.specs.Grids.{GridLineOf}
 use Rattle.lines.proofs.Laws.Grids.{grid_unreadable}
 use Rattle.lines.proofs.Laws.Texts.{line-one}
-use Rattle.lines.specs.declared.line.Line.{Line}
-use Rattle.lines.specs.declared.line.Line.TheVariants as line
-use Rattle.lines.specs.declared.grid_line.GridLine.{GridLine}
-use Rattle.lines.specs.declared.grid_line.GridLine.TheVariants as grid_line
+use Rattle.lines.specs.declared.line.Call.{Call}
 use Rattle.ticket.specs.declared.Start.TheVariants as start
 use Rattle.ticket.specs.Ticket.{refusal_line, Nine, LineAnswer, Answered}
+use Rattle.ticket.proofs.Laws.Replies.{refused-line}
 use Rattle.ticket.specs.Report.{line_text, report_lines, GridAnswered, Turned}
 
-module _ {w w' : World} {g : Grid} {row row' : List ℕ} {out : Output} {a : GridAnswer} where
-  pub grid_refused : {k : ℕ} → a ≡ grid.Refused k → GridReport w g row w' row' (grid_reply a) → Written out (refusal_line k) → GridAnswered w g row w' row' out
-  grid_refused {k} e h l = record { reply = refused k; call = rw e at h; line = l }
-
-  pub grid_many : {n : ℕ} → a ≡ grid.TooMany n → GridReport w g row w' row' (grid_reply a) → Written out (refusal_line 8) → GridAnswered w g row w' row' out
-  grid_many {n} e h l = record { reply = too_many n; call = rw e at h; line = l }
+module _ {w w' : World} {g : Grid} {row row' : List ℕ} {out : Output} {a : Result ℕ Refusal} where
+  pub grid_refused : {e : Refusal} {k : ℕ} → a ≡ Err e → k ≡ number_of e → GridReport w g row w' row' (number_reply a) → Written out (refusal_line k)
+      → GridAnswered w g row w' row' out
+  grid_refused {e} is n h l = record { reply = refusal_reply e; call = rw is at h; line = refused-line (report (columns_of g) (rows_of g) row') e n l }
 
   -- c and r: the columns and the rows, as the code has them
-  pub grid_reported : {total c r : ℕ} → a ≡ grid.Counted total → GridReport w g row w' row' (grid_reply a) → c ≡ columns_of g → r ≡ rows_of g
+  pub grid_reported : {total c r : ℕ} → a ≡ Ok total → GridReport w g row w' row' (number_reply a) → c ≡ columns_of g → r ≡ rows_of g
       → Written out (report c r row' total) → GridAnswered w g row w' row' out
   grid_reported {total} e h across down l = record {
     reply = answered total;
@@ -50,8 +46,8 @@ module _ {w w' : World} {g : Grid} {row row' : List ℕ} {out : Output} {a : Gri
     line = subst₂ (λ (n m : ℕ). Written out (report n m row' total)) across down l;
   }
 
-pub report-asks : (w : World) (g : Grid) (row : List ℕ) (w' : World) (row' : List ℕ) {a : GridAnswer} {total c r bytes : ℕ} → a ≡ grid.Counted total
-    → GridReport w g row w' row' (grid_reply a) → c ≡ columns_of g → r ≡ rows_of g → length row' ≡ length row → 24 + 17 * length row ≤ bytes
+pub report-asks : (w : World) (g : Grid) (row : List ℕ) (w' : World) (row' : List ℕ) {a : Result ℕ Refusal} {total c r bytes : ℕ} → a ≡ Ok total
+    → GridReport w g row w' row' (number_reply a) → c ≡ columns_of g → r ≡ rows_of g → length row' ≡ length row → 24 + 17 * length row ≤ bytes
     → ((c ≤ 64) × (r ≤ 64) × (c * r ≤ length row') × (total < 2 ^ 32)) × (17 + 17 * (c * r) ≤ bytes)
 report-asks w g row w' row' {total = total} {c} {r} e h across down same room =
     let said : GridReport w g row w' row' (answered total) = rw e at h in
@@ -64,24 +60,24 @@ report-asks w g row w' row' {total = total} {c} {r} e h across down same room =
 
 -- ---- a line
 
-module _ {s : State} {nodes dots : List ℕ} {rects : List ℤ} {marks row input : List ℕ} {l : GridLine} (is : GridLineOf input l)
+module _ {s : State} {nodes dots : List ℕ} {rects : List ℤ} {marks row input : List ℕ} {l : Option Grid} (is : GridLineOf input l)
     {marks' row' out out' : List ℕ} {next : ℕ} where
-  pub turn_grid : {g : Grid} → l ≡ grid_line.Grid g
+  pub turn_grid : {g : Grid} → l ≡ Some g
       → GridAnswered (world s nodes dots rects marks) g row (world s nodes dots rects marks') row' (output out out' next)
       → Turned (world s nodes dots rects marks) row input (start.Ended next) (world s nodes dots rects marks') row' (output out out' next)
-  turn_grid {g} e a = record { says = grid_line.Grid g; is = rw e at is; answer = (refl, a) }
+  turn_grid {g} e a = record { says = Some g; is = rw e at is; answer = (refl, a) }
 
-  pub turn_other : {s' : State} {nodes' dots' : List ℕ} {rects' : List ℤ} → l ≡ grid_line.Other
+  pub turn_other : {s' : State} {nodes' dots' : List ℕ} {rects' : List ℤ} → l ≡ None
       → Answered (world s nodes dots rects marks) row input (world s' nodes' dots' rects' marks') row' (output out out' next)
       → Turned (world s nodes dots rects marks) row input (start.Going s' next) (world s' nodes' dots' rects' marks') row' (output out out' next)
-  turn_other e a = record { says = grid_line.Other; is = rw e at is; answer = (refl, a) }
+  turn_other e a = record { says = None; is = rw e at is; answer = (refl, a) }
 
 -- a grid is no call: refusal 9, and nothing is changed
-pub grid_nine : (w : World) (g : Grid) (row input : List ℕ) (w' : World) (row' : List ℕ) (out : Output) → GridLineOf input (grid_line.Grid g)
+pub grid_nine : (w : World) (g : Grid) (row input : List ℕ) (w' : World) (row' : List ℕ) (out : Output) → GridLineOf input (Some g)
     → Answered w row input w' row' out → Nine w row w' row' out
 grid_nine w g row input w' row' out is a =
-    let none = line-one input a.says line.Unreadable a.is (grid_unreadable g input is.2) in
-    subst (λ (l : Line). LineAnswer w row l w' row' out) none a.answer
+    let none = line-one input a.says None a.is (grid_unreadable g input is.2) in
+    subst (λ (l : Option Call). LineAnswer w row l w' row' out) none a.answer
 
 -- ---- the report's lines are those of the tree
 

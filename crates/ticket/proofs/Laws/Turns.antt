@@ -6,7 +6,7 @@
 --     turns-over   at the end, and after an error, any lines change nothing
 --     never_first  no line leads back to the first
 --     turns-told   a line is told by its first 81 bytes: a longer one than 80 is unreadable either way (§13.2)
-use Rattle.std.specs.Prelude.{◌≡◌, refl, List, [], ◌∷◌, ◌++◌, map, ℕ, ◌≤◌, ℤ, length, take}
+use Rattle.std.specs.Prelude.{◌≡◌, refl, List, [], ◌∷◌, ◌++◌, map, ℕ, ◌≤◌, ℤ, length, take, Option, Some, None}
 use Rattle.std.proofs.Common.{ap, subst, arith}
 use Rattle.std.proofs.Math.Decide.{dec_lt}
 use Rattle.model.specs.declared.State.{State}
@@ -16,10 +16,8 @@ use Rattle.line_reader.proofs.Laws.Cut.{short-kept, long_kept}
 use Rattle.lines.specs.Reading.{Output, output}
 use Rattle.lines.specs.Lines.{LineOf}
 use Rattle.lines.specs.Grids.{GridLineOf}
-use Rattle.lines.specs.declared.line.Line.{Line}
-use Rattle.lines.specs.declared.line.Line.TheVariants as line
-use Rattle.lines.specs.declared.grid_line.GridLine.{GridLine}
-use Rattle.lines.specs.declared.grid_line.GridLine.TheVariants as grid_line
+use Rattle.lines.specs.declared.line.Call.{Call}
+use Rattle.grid.specs.declared.grid.Grid.{Grid}
 use Rattle.ticket.specs.declared.Start.{Start}
 use Rattle.ticket.specs.declared.Start.TheVariants as start
 use Rattle.ticket.specs.First.{end_of, after_start, Started}
@@ -118,13 +116,13 @@ never_first ts = omega (arith, turns-later ts)
 few : (x : List ℕ) → length (take 81 x) ≤ 80 → take 81 x ≡ x
 few x h = by_dec (dec_lt 80 (length x)) (λ long. absurd (omega (arith, long_kept x long))) (λ short. short-kept x (omega arith))
 
-line-told : (x : List ℕ) (y : Line) → LineOf (take 81 x) y → LineOf x y
-line-told x (line.Call c) h = subst (λ (l : List ℕ). LineOf l (line.Call c)) (few x h.0) h
-line-told x line.Unreadable h = λ short. subst (λ (l : List ℕ). LineOf l line.Unreadable) (short-kept x short) h short
+line-told : (x : List ℕ) (y : Option Call) → LineOf (take 81 x) y → LineOf x y
+line-told x (Some c) h = subst (λ (l : List ℕ). LineOf l (Some c)) (few x h.0) h
+line-told x None h = λ short. subst (λ (l : List ℕ). LineOf l None) (short-kept x short) h short
 
-grid_told : (x : List ℕ) (y : GridLine) → GridLineOf (take 81 x) y → GridLineOf x y
-grid_told x (grid_line.Grid g) h = subst (λ (l : List ℕ). GridLineOf l (grid_line.Grid g)) (few x h.0) h
-grid_told x grid_line.Other h = λ short. subst (λ (l : List ℕ). GridLineOf l grid_line.Other) (short-kept x short) h short
+grid_told : (x : List ℕ) (y : Option Grid) → GridLineOf (take 81 x) y → GridLineOf x y
+grid_told x (Some g) h = subst (λ (l : List ℕ). GridLineOf l (Some g)) (few x h.0) h
+grid_told x None h = λ short. subst (λ (l : List ℕ). GridLineOf l None) (short-kept x short) h short
 
 answered-told : (x : List ℕ) {w w' : World} {row row' : List ℕ} {out : Output} → Answered w row (take 81 x) w' row' out → Answered w row x w' row' out
 answered-told x a = record { says = a.says; is = line-told x a.says a.is; answer = a.answer }
@@ -133,9 +131,9 @@ started-told : (x : List ℕ) {w w' : World} {r : Start} {out : Output} → Star
 started-told x a = record { says = a.says; is = line-told x a.says a.is; answer = a.answer }
 
 module _ (x : List ℕ) (w : World) (row : List ℕ) (r : Start) (w' : World) (row' : List ℕ) (out : Output) where
-  turn-told : (y : GridLine) → TurnAnswer w row (take 81 x) y r w' row' out → TurnAnswer w row x y r w' row' out
-  turn-told (grid_line.Grid g) a = a
-  turn-told grid_line.Other a = (a.0, answered-told x a.1)
+  turn-told : (y : Option Grid) → TurnAnswer w row (take 81 x) y r w' row' out → TurnAnswer w row x y r w' row' out
+  turn-told (Some g) a = a
+  turn-told None a = (a.0, answered-told x a.1)
 
   turned-told : Turned w row (take 81 x) r w' row' out → Turned w row x r w' row' out
   turned-told t = record { says = t.says; is = grid_told x t.says t.is; answer = turn-told t.says t.answer }

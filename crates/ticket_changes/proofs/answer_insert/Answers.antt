@@ -3,8 +3,8 @@ use Rattle.std.proofs.Common.{rules}
 use Rattle.ticket.proofs.Laws.Replies.{insert-refused, inserted}
 use Rattle.ticket_changes.proofs.answer_insert.Goals as goal
 
-pub returns-in-Refused : goal.returns-in-Refused
-returns-in-Refused c = search (rules, insert-refused)
+pub returns-in-Err : goal.returns-in-Err
+returns-in-Err c = search (rules, insert-refused)
 
-pub returns-in-Splits : goal.returns-in-Splits
-returns-in-Splits c = search (rules, inserted)
+pub returns-in-Ok : goal.returns-in-Ok
+returns-in-Ok c = search (rules, inserted)

@@ -1,5 +1,4 @@
 -- The input's end.
---     left-going, left_ended, left-failed      whether a line is left, by the phase
 --     finish-last, finish-none     a line that is left is answered, or none is
 --     end_over     no line is answered any more
 use Rattle.std.specs.Prelude.{◌≡◌, refl, Bool, true, false, List, [], ◌∷◌, ℕ, ◌≤◌, length, take, ltb}
@@ -12,16 +11,6 @@ use Rattle.ticket.specs.declared.Phase.{Phase}
 use Rattle.ticket.specs.declared.Phase.TheVariants as phase
 use Rattle.ticket.specs.Turns.{is_over, Lent, Turn, Turns, over, turned}
 use Rattle.ticket_end.specs.End.{left_over, is_left, end_phase, Finished}
-
-module _ (kept : ℕ) {q : Phase} where
-  pub left-going : {s : State} → q ≡ phase.Going s → ltb 0 kept ≡ is_left q kept
-  left-going e = rw e refl
-
-  pub left_ended : q ≡ phase.Ended → ltb 0 kept ≡ is_left q kept
-  left_ended e = rw e refl
-
-  pub left-failed : q ≡ phase.Failed → ltb 0 kept ≡ is_left q kept
-  left-failed e = rw e refl
 
 some-last : (bytes : List ℕ) → 1 ≤ length bytes → last_line bytes ≡ bytes ∷ []
 some-last [] h = absurd (omega arith)

@@ -3,8 +3,8 @@ use Rattle.std.proofs.Common.{rules}
 use Rattle.ticket.proofs.Laws.Replies.{make-refused, made}
 use Rattle.ticket_first.proofs.answer_settings.Goals as goal
 
-pub returns-in-Refused : goal.returns-in-Refused
-returns-in-Refused c = search (rules, make-refused)
+pub returns-in-Err : goal.returns-in-Err
+returns-in-Err c = search (rules, make-refused)
 
-pub returns-in-Made : goal.returns-in-Made
-returns-in-Made c = search (rules, made)
+pub returns-in-Ok : goal.returns-in-Ok
+returns-in-Ok c = search (rules, made)

@@ -2,7 +2,7 @@
 --     chunk_start, chunk_line, chunk_part, chunk_end       the loop over the lines of a read's bytes
 --     reading-start, reading-on, reading-over, no_end      one read after another, and the last
 --     status_one, status_zero      what the exit status says
-use Rattle.std.specs.Prelude.{◌≡◌, refl, Bool, true, false, List, [], ◌∷◌, ◌++◌, map, ℕ, ◌≤◌, length, take, drop}
+use Rattle.std.specs.Prelude.{◌≡◌, refl, Bool, true, false, Option, List, [], ◌∷◌, ◌++◌, map, ℕ, ◌≤◌, length, take, drop}
 use Rattle.std.proofs.Common.{ap, sym, subst, ◌∙◌, arith}
 use Rattle.std.proofs.Math.Seq.{drop-length}
 use Rattle.arithmetic.proofs.Laws.Tests.{true_false}
@@ -12,7 +12,6 @@ use Rattle.line_reader.specs.Cut.{lines, last_line, joined, progress, read_bytes
 use Rattle.line_reader.specs.Steps.{Finds}
 use Rattle.line_reader.proofs.Laws.Cut.{handed-more, handed_out}
 use Rattle.line_reader.proofs.Laws.Steps.{finds-reads, line-inside}
-use Rattle.stream.specs.declared.Got.{Got}
 use Rattle.ticket.specs.declared.Program.{Program}
 use Rattle.ticket.specs.declared.Phase.{Phase}
 use Rattle.ticket.specs.declared.Phase.TheVariants as phase
@@ -134,19 +133,19 @@ module _ {p : Program} {l : Lent} {from : Progress} {line : List ℕ} {k : Lent}
         turns = turns-append so_far.turns c.turns;
       }
 
-  module _ {got : Got} {buffer : List ℕ} where
+  module _ {got : Option ℕ} {buffer : List ℕ} where
     answered-on : ReadAnswered p from got line k buffer to line' l' → is_over to.phase ≡ false → Reading p 81 l to line' l'
-    answered-on (some ok any c) going = reading-more (take got.count buffer) c
-    answered-on (none ok zero f) going = true_false (sym (ap is_over f.ends ∙ end_over f.last) ∙ going)
-    answered-on (failed ok e kept) going = true_false (sym (ap is_over e) ∙ going)
+    answered-on (some count is any c) going = reading-more (take count buffer) c
+    answered-on (none is f) going = true_false (sym (ap is_over f.ends ∙ end_over f.last) ∙ going)
+    answered-on (failed is e kept) going = true_false (sym (ap is_over e) ∙ going)
 
     answered-over : ReadAnswered p from got line k buffer to line' l' → to.phase ≡ phase.Ended → AllAnswered p l l'
-    answered-over (some ok any c) e =
+    answered-over (some count is any c) e =
         let ended : Finished p to.phase (take to.kept line') l' phase.Ended l' =
         rw e (record { last = phase.Ended; turns = turns-over l' (last_line (take to.kept line')); ends = refl }) in
-        reading-ends (reading-more (take got.count buffer) c) ended
-    answered-over (none ok zero f) e = reading-ends so_far (rw e at f)
-    answered-over (failed ok broken kept) e = no_end (sym broken ∙ e)
+        reading-ends (reading-more (take count buffer) c) ended
+    answered-over (none is f) e = reading-ends so_far (rw e at f)
+    answered-over (failed is broken kept) e = no_end (sym broken ∙ e)
 
   module _ {buffer : List ℕ} (read : ReadOn p from line k buffer to line' l') where
     pub reading-on : is_over to.phase ≡ false → Reading p 81 l to line' l'

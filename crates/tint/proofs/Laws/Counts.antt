@@ -1,9 +1,11 @@
 -- Laws of the dots in a span of columns and a span of rows.
 --     sum-span     a sum from a number on and before another
 --     before-tiles, tiles          the dots left of a column and above a row, by the sums of a tile; the rules by which none of it wraps
+--     empty_told           what `is_empty` says of a range
 --     between-none_wide, between-none_high         an empty span has no dots
 --     inside-fits, outside-fits, outside-less, between-rest        the dots in two spans, by four counts
-use Rattle.std.specs.Prelude.{◌≡◌, refl, ◌&&◌, List, leb, ltb, get_or}
+use Rattle.std.specs.Prelude.{◌≡◌, refl, true, not, ◌&&◌, List, leb, ltb, get_or}
+use Rattle.std.specs.Ordering.{nat_cmp, is_lt}
 use Rattle.std.proofs.Common.{ap, ap₂, ◌∙◌, mul-le-mul, arith, le-leb, lt-ltb, le-ltb, Fits}
 use Rattle.std.proofs.Math.Path.{sym}
 use Rattle.std.proofs.Math.Bool.{cond}
@@ -11,6 +13,7 @@ use Prim.Native.Nat.{ℕ, zero, suc, ◌+◌, ◌*◌, ◌-◌, ◌/◌, ◌%◌
 use Rattle.std.proofs.Math.Decide.{dec_le}
 use Rattle.std.proofs.Math.ListN.{get_or-eq_default}
 use Rattle.std.proofs.lemmas.Bool.{lt-leb}
+use Rattle.std.proofs.lemmas.Bool.Decides.{nat_tests}
 use Rattle.std.specs.Int.{w32}
 use Rattle.arithmetic.proofs.Laws.Tests.{by_bool}
 use Rattle.model.specs.Sums.{sum_below}
@@ -18,7 +21,7 @@ use Rattle.model.specs.Shapes.{below}
 use Rattle.model.specs.Thresholds.{threshold_at, count_before}
 use Rattle.model.proofs.Laws.Sums.{by_dec, sum_below_ext, sum_below-add, sum_below-zero, sum_below_plus}
 use Rattle.model.proofs.Laws.Thresholds.{count-tiles, tile-dots}
-use Rattle.tint.specs.declared.count.Span.{Span}
+use Rattle.std.specs.declared.ops.Range.{Range}
 use Rattle.tint.specs.Sums.{TileSums}
 use Rattle.tint.specs.Counts.{sum_from, dots_between}
 use Rattle.tint.proofs.Laws.Sums.{count-few}
@@ -115,49 +118,53 @@ pub ruleset tiles = (few-tiles, word-few, tiles-fit, row_fits, rows_fit, all_fit
 
 -- ---- between
 
-module _ (tint : ℕ) (across down : Span) where
-  pub between-none_wide : across.to ≤ across.from → 0 ≡ dots_between tint across down
+-- a range that `is_empty` calls empty
+pub empty_told : (a b : ℕ) → not (is_lt (nat_cmp a b)) ≡ true → b ≤ a
+empty_told a b e = grind (arith, nat_tests)
+
+module _ (tint : ℕ) (across down : Range ℕ) where
+  pub between-none_wide : across.end ≤ across.start → 0 ≡ dots_between tint across down
   unfolding dots_between
   between-none_wide h =
-      let in_row : ℕ → ℕ = λ j. sum_from across.from across.to (λ i. below (threshold_at i j) tint) in
-      sym (sum_below-zero down.to (λ j. cond (leb down.from j) (in_row j) 0)
-      (λ j b. by_bool (leb down.from j) (λ e. rw e (sum_from-none across.from across.to (λ i. below (threshold_at i j) tint) h)) (λ e. rw e refl)))
+      let in_row : ℕ → ℕ = λ j. sum_from across.start across.end (λ i. below (threshold_at i j) tint) in
+      sym (sum_below-zero down.end (λ j. cond (leb down.start j) (in_row j) 0)
+      (λ j b. by_bool (leb down.start j) (λ e. rw e (sum_from-none across.start across.end (λ i. below (threshold_at i j) tint) h)) (λ e. rw e refl)))
 
-  pub between-none_high : down.to ≤ down.from → 0 ≡ dots_between tint across down
+  pub between-none_high : down.end ≤ down.start → 0 ≡ dots_between tint across down
   unfolding dots_between
   between-none_high h =
-      sym (sum_from-none down.from down.to (λ j. sum_from across.from across.to (λ i. below (threshold_at i j) tint)) h)
+      sym (sum_from-none down.start down.end (λ j. sum_from across.start across.end (λ i. below (threshold_at i j) tint)) h)
 
   -- those left of the span and those above it, taken from all before its end; the ones that are both are taken once
-  between-whole : across.from ≤ across.to → down.from ≤ down.to
-      → dots_between tint across down + (count_before tint across.from down.to + count_before tint across.to down.from)
-      ≡ count_before tint across.to down.to + count_before tint across.from down.from
+  between-whole : across.start ≤ across.end → down.start ≤ down.end
+      → dots_between tint across down + (count_before tint across.start down.end + count_before tint across.end down.start)
+      ≡ count_before tint across.end down.end + count_before tint across.start down.start
   unfolding dots_between count_before
   between-whole wide high =
-      let left = across.from in
-      let right = across.to in
+      let left = across.start in
+      let right = across.end in
       let one : ℕ → ℕ → ℕ = λ j i. below (threshold_at i j) tint in
       let in_row : ℕ → ℕ = λ j. sum_from left right (one j) in
       let columns : (n : ℕ) → sum_below n in_row + sum_below n (λ j. sum_below left (one j)) ≡ sum_below n (λ j. sum_below right (one j)) = λ n.
       sym (sum_below-add n in_row (λ j. sum_below left (one j)))
       ∙ sum_below_ext n (λ j. in_row j + sum_below left (one j)) (λ j. sum_below right (one j)) (λ j b. sum-from left right (one j) wide) in
-      omega (arith, sum-from down.from down.to in_row high, columns down.from, columns down.to)
+      omega (arith, sum-from down.start down.end in_row high, columns down.start, columns down.end)
 
 before-most : (tint column row : ℕ) → column ≤ 1024 → row ≤ 1024 → count_before tint column row ≤ 1048576
 before-most tint column row wide high =
     omega (arith, count-few tint column row, mul-le-mul {n₁ = row} {m₁ = column} {n₂ = 1024} {m₂ = 1024} high wide)
 
 -- by the code's four counts: no sum of two wraps, and the difference is not negative
-module _ (tint : ℕ) (across down : Span) (whole corner left above : ℕ)
-    (wide : across.to ≤ 1024) (high : down.to ≤ 1024) (some : across.from < across.to) (more : down.from < down.to)
-    (w : whole ≡ count_before tint across.to down.to) (c : corner ≡ count_before tint across.from down.from) where
+module _ (tint : ℕ) (across down : Range ℕ) (whole corner left above : ℕ)
+    (wide : across.end ≤ 1024) (high : down.end ≤ 1024) (some : across.start < across.end) (more : down.start < down.end)
+    (w : whole ≡ count_before tint across.end down.end) (c : corner ≡ count_before tint across.start down.start) where
   pub inside-fits : Fits w32 (whole + corner)
   inside-fits =
-      let most-whole = before-most tint across.to down.to wide high in
-      let most-corner = before-most tint across.from down.from (omega arith) (omega arith) in
+      let most-whole = before-most tint across.end down.end wide high in
+      let most-corner = before-most tint across.start down.start (omega arith) (omega arith) in
       record { fits = omega arith }
 
-  module _ (l : left ≡ count_before tint across.from down.to) (a : above ≡ count_before tint across.to down.from) where
+  module _ (l : left ≡ count_before tint across.start down.end) (a : above ≡ count_before tint across.end down.start) where
     pub outside-less : left + above ≤ whole + corner
     outside-less = let law = between-whole tint across down (omega arith) (omega arith) in omega arith
 

@@ -23,16 +23,16 @@ use Rattle.model.specs.Patch.{patch_fits, unit_rect, has_dot, patch_rects, patch
 use Rattle.model.proofs.Laws.Sums.{sum_over-one, sum_below_ext, sum_below-zero}
 use Rattle.model.proofs.Laws.Lists.{sum-filter}
 use Rattle.model.proofs.Laws.Patch.{patch-sum, numbered-length, patch-number, ids-fit}
-use Rattle.tint.specs.declared.count.Span.{Span}
+use Rattle.std.specs.declared.ops.Range.{Range}
 use Rattle.tint.specs.Counts.{sum_from, dots_between, corners_within, within_bounds}
 use Rattle.tint.proofs.Laws.Counts.{sum-span}
 use Rattle.tint.proofs.Laws.Corners.{corner_within, corners-few}
 use Rattle.tint.proofs.Laws.Filters.{filter-few}
 
-abbrev pub columns_within : Bounds → Patch → Span
+abbrev pub columns_within : Bounds → Patch → Range ℕ
 columns_within b p = corners_within p.x b.x_over b.x_upto (16 * p.columns)
 
-abbrev pub rows_within : Bounds → Patch → Span
+abbrev pub rows_within : Bounds → Patch → Range ℕ
 rows_within b p = corners_within p.y b.y_over b.y_upto (16 * p.rows)
 
 -- ---- ranges
@@ -58,8 +58,8 @@ sides p e =
 -- ---- the dots
 
 -- whether a span has a number
-abbrev spans : Span → ℕ → Bool
-spans s i = leb s.from i && ltb i s.to
+abbrev spans : Range ℕ → ℕ → Bool
+spans s i = leb s.start i && ltb i s.end
 
 -- a dot that is there and lies within the bounds counts 1
 both-tests : (there across down : Bool) → ◌≡◌ {A = ℕ} (cond there (cond (across && down) 1 0) 0) (cond down (cond across (cond there 1 0) 0) 0)
@@ -90,19 +90,19 @@ module _ (b : Bounds) (p : Patch) where
       let rows = 16 * p.rows in
       let one : ℕ → ℕ → ℕ = λ row column. below (threshold_at column row) p.tint in
       let counts : ℕ → ℕ → ℕ = λ row column. cond (has_dot p column row) (cond (in_bounds b (unit_rect (p.x +ℤ pos column) (p.y +ℤ pos row))) 1 0) 0 in
-      let in_row : ℕ → ℕ = λ row. sum_from across.from across.to (one row) in
+      let in_row : ℕ → ℕ = λ row. sum_from across.start across.end (one row) in
       let each : (row : ℕ) → row < rows → sum_below columns (counts row) ≡ cond (spans down row) (in_row row) 0 = λ row rb.
       sum_below_ext columns (counts row) (λ column. cond (spans down row) (cond (spans across column) (one row column) 0) 0)
       (λ column cb.
       ap (λ (t : Bool). cond (has_dot p column row) (cond t 1 0) 0) (unit_within column row cb rb)
       ∙ both-tests (has_dot p column row) (spans across column) (spans down row))
       ∙ sum_when (spans down row) columns (λ column. cond (spans across column) (one row column) 0)
-      ∙ ap (λ (n : ℕ). cond (spans down row) n 0) (sum-span columns across.from across.to (one row) (corners-few p.x b.x_upto columns)) in
+      ∙ ap (λ (n : ℕ). cond (spans down row) n 0) (sum-span columns across.start across.end (one row) (corners-few p.x b.x_upto columns)) in
       sym (sym (sum_over-one (within_bounds b (patch_rects p)))
       ∙ sum-filter (λ r. 1) (in_bounds b) (patch_rects p)
       ∙ patch-sum (λ r. cond (in_bounds b r) 1 0) p
       ∙ sum_below_ext rows (λ row. sum_below columns (counts row)) (λ row. cond (spans down row) (in_row row) 0) each
-      ∙ sum-span rows down.from down.to in_row (corners-few p.y b.y_upto rows))
+      ∙ sum-span rows down.start down.end in_row (corners-few p.y b.y_upto rows))
 
 -- ---- how many
 

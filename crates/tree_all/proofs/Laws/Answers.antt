@@ -1,12 +1,11 @@
 -- All on a memory that is a tree: a law for each way through the code.
 --     all-asks     the walk from the root
 --     all-many, all_listed     refusal 8, and the ids listed
-use Rattle.std.specs.Prelude.{◌≡◌, List, ◌++◌, ℕ, ◌+◌, ◌≤◌, ◌<◌, ℤ, replicate}
+use Rattle.std.specs.Prelude.{◌≡◌, List, ◌++◌, ℕ, ◌≤◌, ◌<◌, ℤ, replicate}
 use Rattle.std.proofs.Math.Path.{ap}
 use Rattle.std.proofs.Common.{sym, ◌∙◌, lt-ltb, le-ltb}
 use native.Mathlib.Omega.{arith}
 use Rattle.std.proofs.Math.ListN.{length, drop}
-use Rattle.std.proofs.Math.Seq.{sets-eq}
 use Rattle.geometry.specs.Settings.{D}
 use Rattle.model.specs.declared.State.{State}
 use Rattle.model.specs.Shapes.{Shape, all_ids}
@@ -16,6 +15,7 @@ use Rattle.model.proofs.Laws.Memory.{holds-represented}
 use Rattle.model.proofs.Laws.Listing.{all-length}
 use Rattle.tree.specs.Operations.{HasDots}
 use Rattle.tree.proofs.Laws.Trees.{root_stands}
+use Rattle.tree.proofs.Laws.Rows.{sets_whole}
 use Rattle.tree_all.specs.Walks.{TreeInRows, NodeList, NodeListed, AllListed}
 
 module _ (s : State) (nodes dots : List ℕ) where
@@ -51,9 +51,8 @@ module _ (s : State) (nodes dots : List ℕ) where
     unfolding AllListed NodeListed all_rule all_ids cleared
     all_listed long deep row' r walked = λ rects marks x h.
         let many = number rects marks x h in
-        let fits : 0 + length (all_ids x) ≤ length row = omega (arith, many) in
-        let none : 0 + length (all_ids x) ≡ length (all_ids x) = omega arith in
+        let fits : length (all_ids x) ≤ length row = omega (arith, many) in
         let written : row' ≡ all_ids x ++ drop (length (all_ids x)) row =
-        (walked x.tree (root rects marks x h deep)).written ∙ sets-eq (all_ids x) row 0 fits ∙ ap (λ (k : ℕ). all_ids x ++ drop k row) none in
+        (walked x.tree (root rects marks x h deep)).written ∙ sets_whole row (all_ids x) fits in
         let words = h.words in
         rw (le-ltb (length row) (length (all_ids x)) (omega (arith, many))) (λ i. exit (words i) (written i) (answered (sym many i)))

@@ -1,8 +1,9 @@
 -- The loop over a chain: what is left to write, at each turn.
+--     has-chain    the chain's places are in the rows
 --     Rest         what has been written and what is left make the whole
 --     rest-start, rest-turn, rest_end      the loop's three steps
 --     rest-place, rest-room        what a turn asks: the place that it reads is in the rows, and the row has room
-use Rattle.std.specs.Prelude.{◌≡◌, refl, ℕ, ◌+◌, ◌-◌, ◌≤◌, ◌<◌, set}
+use Rattle.std.specs.Prelude.{◌≡◌, refl, ℕ, ◌+◌, ◌-◌, ◌<◌, set}
 use Rattle.std.proofs.Common.{ap, sym, ◌∙◌, subst, add-one, arith, length-set}
 use mathlib.Core.List.{List, [], ◌∷◌}
 use Rattle.std.proofs.Math.ListN.{length}
@@ -12,7 +13,13 @@ use Rattle.model.specs.Trees.{Placed}
 use Rattle.model.specs.Layout.{none}
 use Rattle.model.specs.Memory.{read, id_at, next_at, Chained}
 use Rattle.memory.specs.Rows.{HasPlace}
+use Rattle.memory.specs.Chains.{HasChain, Passed}
+use Rattle.tree.proofs.Laws.Chains.{chain_has}
 use Rattle.tree_all.specs.Walks.{ids, Written, ChainInRows, ChainList, ChainListed}
+
+pub has-chain : {dots row : List ℕ} {at head count : ℕ} → ChainList dots row at head count → HasChain dots head count
+has-chain {dots} {head = head} w =
+    subst (HasChain dots head) w.long (chain_has dots w.stands.rects head w.chain w.stands.stands w.stands.in_rows)
 
 -- of the whole chain, from the position at₀ of row₀, this is left
 pub record RestOf (dots row₀ : List ℕ) (at₀ : ℕ) (whole : List Placed) (row : List ℕ) (at place left : ℕ) : Type 0 where
@@ -53,29 +60,29 @@ module _ {dots row₀ : List ℕ} {at₀ head count : ℕ} {row : List ℕ} {at 
           }
 
   -- a turn, by what its calls ensure
-  pub rest-turn : 0 < left → {id place' : ℕ} → id ≡ id_at dots place → place' ≡ next_at dots place
-      → Rest dots row₀ at₀ head count (set row at id) (at + 1) place' (left - 1)
-  rest-turn h e n =
-      rw (e, n)
+  pub rest-turn : {p place' left' id : ℕ} → Passed dots place left p place' left' → id ≡ id_at dots p
+      → Rest dots row₀ at₀ head count (set row at id) (at + 1) place' left'
+  rest-turn t e =
+      rw (e ∙ ap (id_at dots) t.here, t.next, t.rest)
       (record {
         same = length-set row at (id_at dots place) ∙ inv.same;
         position = omega (arith, inv.position);
-        rest = λ whole s l. turn_of whole (inv.rest whole s l) h;
+        rest = λ whole s k. turn_of whole (inv.rest whole s k) t.some;
       })
 
-  module _ (w : ChainList dots row₀ at₀ head count) (h : 0 < left) where
-    pub rest-place : HasPlace dots place
-    rest-place = let r = inv.rest w.chain w.stands w.long in go r.chain r.stands r.long
+  module _ (w : ChainList dots row₀ at₀ head count) {p place' left' : ℕ} (t : Passed dots place left p place' left') where
+    pub rest-place : HasPlace dots p
+    rest-place = let r = inv.rest w.chain w.stands w.long in subst (HasPlace dots) (sym t.here) (go r.chain r.stands r.long)
       where
         go : (chain : List Placed) → ChainInRows dots place chain → length chain ≡ left → HasPlace dots place
-        go [] s l = absurd (omega (arith, l))
+        go [] s l = absurd (omega (arith, l, t.some))
         go (d ∷ ds) s l = subst (HasPlace dots) (sym s.stands.0) s.in_rows.0.0
 
     pub rest-room : (at < length row) × (at < 65536)
-    rest-room = (omega (arith, inv.same, inv.position, w.fits.room), omega (arith, inv.position, w.fits.small))
+    rest-room = (omega (arith, inv.same, inv.position, w.fits.room, t.some), omega (arith, inv.position, w.fits.small, t.some))
 
   -- nothing is left: the whole chain is written
-  pub rest_end : left ≤ 0 → ChainListed dots row₀ at₀ head count row at
+  pub rest_end : left ≡ 0 → ChainListed dots row₀ at₀ head count row at
   unfolding ChainListed
   rest_end z = λ whole s l. let r = inv.rest whole s l in go whole l r.chain r.long r.written
     where

@@ -1,7 +1,9 @@
 -- The walk of a group, child by child.
 --     group_empty  no child is left
 --     group-child, group-others, group_gives       the first child's walk; what the others' asks; both together
-use Rattle.std.specs.Prelude.{◌≡◌, List, ℕ, ◌+◌, ◌-◌}
+--     Ahead        the loop over the children: what it has left to do leads to the whole
+--     ahead-start, ahead-child, ahead-next, ahead_end      its begin; a child's walk; a turn; its end
+use Rattle.std.specs.Prelude.{◌≡◌, List, ℕ, ◌+◌, ◌-◌, ◌≤◌, ◌<◌}
 use Rattle.std.proofs.Common.{sym, arith}
 use Rattle.std.proofs.Math.Path.{subst}
 use Rattle.model.proofs.Laws.Trees.{length-dots}
@@ -70,3 +72,42 @@ module _ (nodes dots row : List ℕ) (at first levels left : ℕ) where
           let one = child-written g f h (s child (omega (arith, w.few)) (omega (arith, some))) in
           rw (join_step (λ i. dots_of (f i)) left (omega (arith, some)))
           (written_then one (rest g f h (λ j low b. s j (omega (arith, some)) b)))
+
+-- ---- the loop, before a child
+
+pub record Ahead (nodes dots row₀ : List ℕ) (at₀ first levels : ℕ) (row : List ℕ) (at child : ℕ) : Type 0 where
+  pub asks : GroupList nodes dots row at first levels (5 - child)
+  pub whole : (row' : List ℕ) (r : ℕ) → GroupListed nodes dots row at first levels (5 - child) row' r
+      → GroupListed nodes dots row₀ at₀ first levels 5 row' r
+
+pub ahead-start : {nodes dots row : List ℕ} {at first levels : ℕ} → GroupList nodes dots row at first levels 5
+    → Ahead nodes dots row at first levels row at 0
+ahead-start w = record { asks = w; whole = λ row' r g. g }
+
+module _ {nodes dots row₀ : List ℕ} {at₀ first levels : ℕ} {row : List ℕ} {at child : ℕ} (a : Ahead nodes dots row₀ at₀ first levels row at child) where
+  module _ (more : child < 5) where
+    this : 5 - (5 - child) ≡ child
+    this = omega arith
+
+    others : (5 - child) - 1 ≡ 5 - (child + 1)
+    others = omega arith
+
+    pub ahead-child : NodeList nodes dots row at (first + child) levels
+    ahead-child =
+        subst (λ (k : ℕ). NodeList nodes dots row at (first + k) levels) this (group-child nodes dots row at first levels (5 - child) (omega arith) a.asks)
+
+    pub ahead-next : {row₁ : List ℕ} {k₁ : ℕ} → NodeListed nodes dots row at (first + child) levels row₁ k₁
+        → Ahead nodes dots row₀ at₀ first levels row₁ k₁ (child + 1)
+    ahead-next {row₁} {k₁} walked =
+        let node = subst (λ (k : ℕ). NodeListed nodes dots row at (first + k) levels row₁ k₁) (sym this) walked in
+        record {
+          asks =
+              subst (GroupList nodes dots row₁ k₁ first levels) others
+              (group-others nodes dots row at first levels (5 - child) (omega arith) a.asks row₁ k₁ node);
+          whole = λ row' r g. a.whole row' r
+              (group_gives nodes dots row at first levels (5 - child) (omega arith) a.asks row₁ k₁ node row' r
+              (subst (λ (k : ℕ). GroupListed nodes dots row₁ k₁ first levels k row' r) (sym others) g));
+        }
+
+  pub ahead_end : 5 ≤ child → GroupListed nodes dots row₀ at₀ first levels 5 row at
+  ahead_end z = a.whole row at (group_empty nodes dots row at first levels (5 - child) (omega arith))

@@ -1,17 +1,13 @@
 -- Ids written one after another.
 --     written_none, written_then, written_row      nothing more; one walk after another; the row keeps its length
-use Rattle.std.specs.Prelude.{◌≡◌, refl, List, [], ◌∷◌, ◌++◌, ℕ, suc, ◌+◌, length, set}
+use Rattle.std.specs.Prelude.{◌≡◌, refl, List, [], ◌++◌, ℕ, ◌+◌, length}
 use Rattle.std.proofs.Common.{ap, sym, ◌∙◌, arith, length-append}
 use Rattle.std.proofs.lemmas.List.Edits.{sets}
 use Rattle.std.proofs.Math.Seq.{length-sets}
 use Rattle.model.specs.Trees.{Placed, id_of}
 use Rattle.model.proofs.Laws.Lists.{map-append, length-map}
+use Rattle.tree.proofs.Laws.Rows.{sets_append}
 use Rattle.tree_all.specs.Walks.{ids, Written}
-
-sets_append : {A : Type 0} (row : List A) (at : ℕ) (xs ys : List A) → sets row at (xs ++ ys) ≡ sets (sets row at xs) (at + length xs) ys
-sets_append row at [] ys = ap (λ (k : ℕ). sets row k ys) (omega arith)
-sets_append row at (x ∷ xs) ys =
-    sets_append (set row at x) (suc at) xs ys ∙ ap (λ (k : ℕ). sets (sets (set row at x) (suc at) xs) k ys) (omega arith)
 
 pub written_none : (row : List ℕ) (at : ℕ) → Written row at [] row at
 written_none row at = record { position = omega arith; written = refl }

@@ -123,11 +123,11 @@ module _ {test : Dot → Bool} {m : Mem} {marks : List ℕ} {places head count :
         pub left_bad : not pass ≡ true → ChainScanned test m marks places head count marks' false
         left_bad n = stop (bad_dot test m marks' places link left some (sym (told ∙ ap test is) ∙ not-true pass n))
 
-        pub left-next : {next : ℕ} → places ≤ length marks → get_or marks' link 0 ≡ 0 → not pass ≡ false → next ≡ m.next link
-            → ChainLeft test m marks places head count (set marks' link 1) next (left - 1)
-        left-next room unmarked n e =
+        pub left-next : {next left' : ℕ} → left' ≡ left - 1 → places ≤ length marks → get_or marks' link 0 ≡ 0 → not pass ≡ false → next ≡ m.next link
+            → ChainLeft test m marks places head count (set marks' link 1) next left'
+        left-next z room unmarked n e =
             let passes = sym (told ∙ ap test is) ∙ not-false pass n in
-            rw e (turn test m marks' places link left some (omega (arith, l.size)) l.bits b unmarked passes marks head count l)
+            rw (e, z) (turn test m marks' places link left some (omega (arith, l.size)) l.bits b unmarked passes marks head count l)
 
   end_good : left ≡ 0 → link ≡ none → ChainFound test m marks places head count marks'
   end_good z e =

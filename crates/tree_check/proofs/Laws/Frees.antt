@@ -4,15 +4,16 @@
 --     free-places      the free groups are the same whatever the places hold
 --     FreeLeft         the loop: what is left to check is good just where the whole is
 --     free-start, free-next        before the loop all is left; one group more
---     free-short, free-none, free_seen, free_bad, free_end     the answer: too many, no group, a marked one, words that are not free; at the end
-use Rattle.std.specs.Prelude.{◌≡◌, Bool, true, false, not, ◌&&◌, ℕ, zero, suc, ◌+◌, ◌-◌, ◌≤◌, ◌<◌, length, get_or, set, eqb}
+--     free-short, free-none, free_seen, free_bad, free_end, free-last     the answer: too many, no group, a marked one, words that are not free; at the end
+use Rattle.std.specs.Prelude.{◌≡◌, Bool, true, false, Some, None, not, ◌&&◌, ℕ, zero, suc, ◌+◌, ◌-◌, ◌≤◌, ◌<◌, length, get_or, set, eqb}
 use Rattle.std.proofs.Math.Path.{refl}
 use Rattle.std.proofs.Common.{ap, sym, ◌∙◌, subst, arith, length-set, eqb-true, eq-eqb}
 use mathlib.Core.List.{List, [], ◌∷◌}
 use Rattle.std.proofs.Math.Decide.{dec_lt}
-use Rattle.std.proofs.lemmas.Bool.{not-true, not-false}
-use Rattle.arithmetic.proofs.Laws.Tests.{true_false}
+use Rattle.std.proofs.lemmas.Bool.{not-true, not-false, eqb-false}
+use Rattle.arithmetic.proofs.Laws.Tests.{by_bool, true_false}
 use Rattle.arithmetic.proofs.Laws.Linear.{and_t}
+use Rattle.std.specs.List.{list_all, range_with_len}
 use Rattle.model.specs.Sums.{indicator}
 use Rattle.model.proofs.Laws.Sums.{indicator-same, by_dec}
 use Rattle.model.specs.Lists.{count}
@@ -46,11 +47,10 @@ pub empty-read : (nodes : List ℕ) (a : ℕ) {words : Node} → words ≡ node_
 unfolding empty_at none
 empty-read nodes a e = λ i. eqb (e i).first 4294967295 && eqb (e i).count 0
 
-pub free-read : (nodes : List ℕ) (g : ℕ) {head : Node} {a b c d : Bool} → head ≡ node_at nodes (child_node g 0) → a ≡ empty_at nodes (child_node g 1)
-    → b ≡ empty_at nodes (child_node g 2) → c ≡ empty_at nodes (child_node g 3) → d ≡ empty_at nodes (child_node g 4)
-    → eqb head.count 0 && ((a && b) && (c && d)) ≡ free_words nodes g
+pub free-read : (nodes : List ℕ) (g : ℕ) {head : Node} {others : Bool} → head ≡ node_at nodes (child_node g 0)
+    → others ≡ list_all (λ i. empty_at nodes (child_node g i)) (range_with_len 1 4) → eqb head.count 0 && others ≡ free_words nodes g
 unfolding free_words
-free-read nodes g e p q r s = λ i. eqb (e i).count 0 && ((p i && q i) && (r i && s i))
+free-read nodes g e o = λ i. eqb (e i).count 0 && o i
 
 -- what holds of children 1 to 4
 four : (P : ℕ → Type 0) → P 1 → P 2 → P 3 → P 4 → (i : ℕ) → 1 ≤ i → i < 5 → P i
@@ -65,12 +65,13 @@ words_are : (nodes : List ℕ) (g : ℕ) → free_words nodes g ≡ true → Wor
 unfolding free_words
 words_are nodes g e =
     let empty : ℕ → Bool = λ i. empty_at nodes (child_node g i) in
-    let all = and_t (eqb (count_at nodes (child_node g 0)) 0) ((empty 1 && empty 2) && (empty 3 && empty 4)) e in
-    let halves = and_t (empty 1 && empty 2) (empty 3 && empty 4) all.1 in
-    let low = and_t (empty 1) (empty 2) halves.0 in
-    let high = and_t (empty 3) (empty 4) halves.1 in (
+    let all = and_t (eqb (count_at nodes (child_node g 0)) 0) (empty 1 && (empty 2 && (empty 3 && (empty 4 && true)))) e in
+    let one = and_t (empty 1) (empty 2 && (empty 3 && (empty 4 && true))) all.1 in
+    let two = and_t (empty 2) (empty 3 && (empty 4 && true)) one.1 in
+    let three = and_t (empty 3) (empty 4 && true) two.1 in
+    let last = and_t (empty 4) true three.1 in (
       eqb-true _ _ all.0,
-      four (λ i. Empty nodes (child_node g i)) (empty-is nodes _ low.0) (empty-is nodes _ low.1) (empty-is nodes _ high.0) (empty-is nodes _ high.1),
+      four (λ i. Empty nodes (child_node g i)) (empty-is nodes _ one.0) (empty-is nodes _ two.0) (empty-is nodes _ three.0) (empty-is nodes _ last.0),
     )
 
 are_words : (nodes : List ℕ) (g : ℕ) → Words nodes g → free_words nodes g ≡ true
@@ -166,12 +167,12 @@ module _ (nodes marks : List ℕ) (places groups head most : ℕ) (marks' : List
   pub free-short : left ≡ 0 → FreeScanned M marks places groups head most marks' false
   free-short z = stop l (λ rest x. omega (arith, (begins rest x).one))
 
-  module _ {group : ℕ} (is : GroupAt link groups group) where
-    same : (rest : List ℕ) (x : FreeGood M marks' places groups link left rest) → (begins rest x).group ≡ group
-    same rest x = let y = begins rest x in sym (is.only y.group y.within y.first)
+  pub free-none : GroupAt link groups None → FreeScanned M marks places groups head most marks' false
+  free-none none_at = stop l (λ rest x. let y = begins rest x in none_at y.group y.within y.first)
 
-    pub free-none : groups ≤ group → FreeScanned M marks places groups head most marks' false
-    free-none b = stop l (λ rest x. omega (arith, (begins rest x).within, same rest x))
+  module _ {group : ℕ} (is : GroupAt link groups (Some group)) where
+    same : (rest : List ℕ) (x : FreeGood M marks' places groups link left rest) → (begins rest x).group ≡ group
+    same rest x = let y = begins rest x in omega (arith, y.first, is.1)
 
     pub free_seen : (group_mark places marks' group ≡ 0 → ⊥) → FreeScanned M marks places groups head most marks' false
     free_seen seen = stop l (λ rest x. seen (ap (group_mark places marks') (sym (same rest x)) ∙ (begins rest x).unseen))
@@ -181,22 +182,22 @@ module _ (nodes marks : List ℕ) (places groups head most : ℕ) (marks' : List
       free_bad n =
           stop l (λ rest x. true_false (sym (are_words nodes group (subst (Words nodes) (same rest x) (begins rest x).words)) ∙ sym told ∙ not-true free n))
 
-      module _ (one : left ≡ 0 → ⊥) (b : group < groups) (unmarked : group_mark places marks' group ≡ 0) (n : not free ≡ false) where
+      module _ (one : left ≡ 0 → ⊥) (unmarked : group_mark places marks' group ≡ 0) (n : not free ≡ false) where
         abbrev marked : List ℕ
         marked = set marks' (places + group) 1
 
         added : Added (group_mark places marks') (group_mark places marked) groups (λ j. indicator j group)
-        added = group-added marks' places groups group l.ready b unmarked
+        added = group-added marks' places groups group l.ready is.0 unmarked
 
         more : (rest : List ℕ) → FreeGood M marked places groups (M.first (child_node group 0)) (left - 1) rest
             → FreeGood M marks' places groups link left (group ∷ rest)
         more rest x =
             let w = words_are nodes group (sym told ∙ not-false free n) in
             record {
-              listed = (is.is b, w.0, w.1, x.listed);
+              listed = (is.1, w.0, w.1, x.listed);
               few = omega (arith, x.few);
               once = once-whole added (λ j. count j rest) (λ j. count j (group ∷ rest)) (λ j. refl)
-                  (once-one (group_mark places marks') groups group (λ j. l.ready.bits (places + j)) b unmarked) x.once;
+                  (once-one (group_mark places marks') groups group (λ j. l.ready.bits (places + j)) is.0 unmarked) x.once;
             }
 
         less : (all : List ℕ) → FreeGood M marks' places groups link left all
@@ -217,12 +218,22 @@ module _ (nodes marks : List ℕ) (places groups head most : ℕ) (marks' : List
         turned : FreeLeft M marks places groups head most marked (M.first (child_node group 0)) (left - 1)
         turned =
             record {
-              ready = marks-ready marks' places groups group l.ready b unmarked;
+              ready = marks-ready marks' places groups group l.ready is.0 unmarked;
               size = length-set marks' (places + group) 1 ∙ l.size;
               back = λ rest x. let q = l.back (group ∷ rest) (more rest x) in (q.0, q.1, λ j c. omega (arith, q.2 j c, added.added j c));
               forth = λ all x. let q = l.forth all x in less q.0 q.1;
-              kept = λ j c. places-kept marks' places groups group l.ready b unmarked j c ∙ l.kept j c;
+              kept = λ j c. places-kept marks' places groups group l.ready is.0 unmarked j c ∙ l.kept j c;
             }
 
-        pub free-next : {node : Node} → node ≡ node_at nodes (child_node group 0) → FreeLeft M marks places groups head most marked node.first (left - 1)
-        free-next e = subst (λ (x : Node). FreeLeft M marks places groups head most marked x.first (left - 1)) (sym e) turned
+        pub free-next : {node : Node} {left' : ℕ} → node ≡ node_at nodes (child_node group 0) → left' ≡ left - 1
+            → FreeLeft M marks places groups head most marked node.first left'
+        free-next e z = rw z (subst (λ (x : Node). FreeLeft M marks places groups head most marked x.first (left - 1)) (sym e) turned)
+
+-- after the last turn
+pub free-last : (nodes marks : List ℕ) (places groups head most : ℕ) (marks' : List ℕ) (link left : ℕ)
+    → FreeLeft (node_memory nodes) marks places groups head most marks' link left → left ≡ 0
+    → FreeScanned (node_memory nodes) marks places groups head most marks' (eqb link 4294967295)
+free-last nodes marks places groups head most marks' link left l z =
+    by_bool (eqb link 4294967295)
+    (λ e. rw e (free_end l (eqb-true link 4294967295 e)))
+    (λ e. rw e (free-short nodes marks places groups head most marks' link left l (eqb-false link 4294967295 e) z))

@@ -4,10 +4,11 @@
 --     once-rest, once-whole, added-whole   what is counted, in two parts of which the first has been marked
 --     marks-ready      the marks are as a walk needs them after one more
 --     zero-at          marks that are 0
---     one_missing, none_missing        whether every mark is 1
-use Rattle.std.specs.Prelude.{◌≡◌, refl, List, true, false, ℕ, zero, suc, ◌+◌, ◌≤◌, ◌<◌, length, get_or, set, replicate}
+--     marks-told       whether every mark is 1
+use Rattle.std.specs.Prelude.{◌≡◌, refl, List, Bool, true, false, MatchBool, ℕ, zero, suc, ◌+◌, ◌≤◌, ◌<◌, length, get_or, set, replicate}
 use Rattle.std.proofs.Common.{ap, sym, ◌∙◌, arith, length-set, get_or-set_same, get_or-set_other}
 use Rattle.std.proofs.Math.Decide.{ℕ_discrete}
+use Rattle.std.specs.List.{AllWithin, HoldsAt}
 use Rattle.model.specs.Sums.{indicator}
 use Rattle.model.proofs.Laws.Sums.{indicator-same, indicator_other, by_dec}
 use Rattle.tree_check.specs.Marks.{place_mark, group_mark, Once, Added, MarksReady, AllMarked}
@@ -84,10 +85,8 @@ once-one mark limit k bits b z =
 
 -- ---- every mark is 1
 
-pub one_missing : (marks : List ℕ) (i : ℕ) → i < length marks → (get_or marks i 0 ≡ 1 → ⊥) → AllMarked marks false
+pub marks-told : (marks : List ℕ) (r : Bool)
+    → MatchBool r (AllWithin (λ x. x ≡ 1) marks 0 (length marks)) ((k : ℕ) × (k < length marks) × HoldsAt (λ x. x ≡ 1 → ⊥) marks k) → AllMarked marks r
 unfolding AllMarked
-one_missing marks i b ne = (i, b, ne)
-
-pub none_missing : (marks : List ℕ) (i : ℕ) → length marks ≤ i → ((k : ℕ) → k < i → get_or marks k 0 ≡ 1) → AllMarked marks true
-unfolding AllMarked
-none_missing marks i b all = λ j c. all j (omega arith)
+marks-told marks true all = λ j b. all j 0 (omega arith) b
+marks-told marks false some = (some.0, some.1, some.2 0)

@@ -8,7 +8,7 @@
 --     leaf-scanned     a leaf's answer is its chain's
 --     no-split, no-group, seen_group   a branch is good no more
 --     branch-scanned   a branch's answer is its group's
-use Rattle.std.specs.Prelude.{◌≡◌, List, [], Bool, not, ◌&&◌, ℕ, ◌+◌, ◌≤◌, ◌<◌, ℤ, eqb, ltb, length, get_or, set}
+use Rattle.std.specs.Prelude.{◌≡◌, List, [], Bool, not, ◌&&◌, ℕ, ◌+◌, ◌≤◌, ◌<◌, ℤ, eqb, ltb, length, get_or, set, Some, None}
 use Rattle.std.proofs.Math.Path.{refl, sym, subst}
 use Rattle.std.proofs.Common.{ap, ◌∙◌}
 use Rattle.std.proofs.Math.Bool.{true, false}
@@ -50,7 +50,14 @@ chain-ready r = record { dot_room = r.dot_room; rect_room = r.rect_room; mark_ro
 pub ready_again : {nodes dots : List ℕ} {rects : List ℤ} {marks marks' : List ℕ} {places groups : ℕ} → TreeReady nodes dots rects marks places groups
     → MarksReady marks' places groups → TreeReady nodes dots rects marks' places groups
 ready_again r marked =
-    record { node_room = r.node_room; dot_room = r.dot_room; rect_room = r.rect_room; mark_ready = marked; places_fit = r.places_fit; groups_fit = r.groups_fit }
+    record {
+      node_room = r.node_room;
+      dot_room = r.dot_room;
+      rect_room = r.rect_room;
+      mark_ready = marked;
+      places_fit = r.places_fit;
+      groups_fit = r.groups_fit;
+    }
 
 -- the same with a group marked
 pub marked-ready : {nodes dots : List ℕ} {rects : List ℤ} {marks : List ℕ} {places groups group : ℕ} → TreeReady nodes dots rects marks places groups
@@ -218,21 +225,25 @@ module _ (r : Region) (nodes dots : List ℕ) (rects : List ℤ) (marks : List �
       unfolding TreeScanned
       no-split n x h = true_false (sym (shape x h).may_split ∙ sym may ∙ not-true splits n)
 
-      module _ {group : ℕ} (at : GroupAt words.first groups group) where
-        pub no-group : groups ≤ group → TreeScanned r M marks places groups a marks false
-        unfolding TreeScanned
-        no-group b x h = let s = shape x h in omega (arith, at.only s.group s.within s.first, s.within)
+      pub no-group : GroupAt words.first groups None → TreeScanned r M marks places groups a marks false
+      unfolding TreeScanned
+      no-group none_at x h = let s = shape x h in none_at s.group s.within s.first
+
+      module _ {group : ℕ} (at : GroupAt words.first groups (Some group)) where
+        only : (k : ℕ) → words.first ≡ child_node k 0 → group ≡ k
+        only k first = omega (arith, first, at.1)
 
         pub seen_group : (group_mark places marks group ≡ 0 → ⊥) → TreeScanned r M marks places groups a marks false
         unfolding TreeScanned
-        seen_group seen x h = let s = shape x h in seen (ap (group_mark places marks) (at.only s.group s.within s.first) ∙ s.unseen)
+        seen_group seen x h = let s = shape x h in seen (ap (group_mark places marks) (only s.group s.first) ∙ s.unseen)
 
-        module _ (b : group < groups) (unmarked : group_mark places marks group ≡ 0) (n : not splits ≡ false) (marks' : List ℕ) where
+        module _ (unmarked : group_mark places marks group ≡ 0) (n : not splits ≡ false) (marks' : List ℕ) where
           abbrev marked : List ℕ
           marked = set marks (places + group) 1
 
           branch-found : GroupFound r M marked places groups group 5 marks' → TreeFound r M marks places groups a marks'
           branch-found k =
+              let b = at.0 in
               let added = group-added marks places groups group ready.mark_ready b unmarked in
               let one = once-one (group_mark places marks) groups group (λ j. bits (places + j)) b unmarked in
               let f = k.children in
@@ -242,7 +253,7 @@ module _ (r : Region) (nodes dots : List ℕ) (rects : List ℤ) (marks : List �
               record {
                 tree = branch group f;
                 good = record {
-                  stands = (mark, sym first-is ∙ at.is b, k.good.stands);
+                  stands = (mark, sym first-is ∙ at.1, k.good.stands);
                   fine = (sym may ∙ not-false splits n, k.good.fine, k.beyond);
                   places_once = record { once = λ j c. omega (arith, k.good.places_once.once j c, kept j c); within = k.good.places_once.within };
                   groups_once = once-whole added rest whole (λ j. refl) one k.good.groups_once;
@@ -259,5 +270,5 @@ module _ (r : Region) (nodes dots : List ℕ) (rects : List ℤ) (marks : List �
           branch-scanned false k =
               λ x h.
               let w = shape x h in
-              let p : w.group ≡ group = sym (at.only w.group w.within w.first) in
+              let p : w.group ≡ group = sym (only w.group w.first) in
               k w.children (subst (λ (y : ℕ). GroupGood r M (set marks (places + y) 1) places groups y 5 w.children) p w.below)

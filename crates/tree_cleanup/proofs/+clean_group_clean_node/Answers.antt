@@ -1,25 +1,24 @@
 use Rattle.std.proofs.Common.{arith, rules, ◌+◌, ◌≤◌}
 use Rattle.tree_cleanup.proofs.Laws.Nodes.{walked_in, leaf-cleaned, branch_in, branch-first, branch-level, branch-room, branch-group}
 use Rattle.tree_cleanup.proofs.Laws.Nodes.{turned-cleaned, branch-cleaned}
-use Rattle.tree_cleanup.proofs.Laws.Groups.{group-none, last_in, group-node, group-rest, group-cleaned}
+use Rattle.tree_cleanup.proofs.Laws.Groups.{ahead-start, ahead-node, ahead-next, ahead_end}
 use Rattle.tree_cleanup.proofs.+clean_group_clean_node.Goals as goal
 
-pub clean_group-returns-then-left-eq0 : goal.clean_group-returns-then-left-eq0
-clean_group-returns-then-left-eq0 t c = search (group-none, rules)
+-- ---- a group
 
-pub clean_group-overflow_add-node : goal.clean_group-overflow_add-node
-clean_group-overflow_add-node t c =
-    let within = last_in _ _ _ _ _ c.if-left-eq0.false c.requires in
-    omega arith
+pub clean_group-loop-child-init : goal.clean_group-loop-child-init
+clean_group-loop-child-init t c = search (ahead-start, rules)
 
 pub clean_group-clean_node-next-requires : goal.clean_group-clean_node-next-requires
-clean_group-clean_node-next-requires t c = (omega arith, search group-node)
+clean_group-clean_node-next-requires t c = (omega arith, search (ahead-node, rules))
 
-pub clean_group-clean_group-requires : goal.clean_group-clean_group-requires
-clean_group-clean_group-requires t c = (omega arith, search group-rest)
+pub clean_group-loop-child-preserved : goal.clean_group-loop-child-preserved
+clean_group-loop-child-preserved t c = search (ahead-next, rules)
 
 pub clean_group-returns : goal.clean_group-returns
-clean_group-returns t c = search (group-cleaned, rules)
+clean_group-returns t c = search (ahead_end, rules)
+
+-- ---- a node
 
 pub clean_node-node_at-words-requires : goal.clean_node-node_at-words-requires
 clean_node-node_at-words-requires t c = search (walked_in, rules)

@@ -1,9 +1,10 @@
 -- The search finds a branch whose five children are empty just where a cleanup says yes.
 --     branch-asks, leaf-read, branch_read  the test of a node, by the words that are read
---     searched-one, searched-none  the ends of the search
+--     searched     what the search of all nodes says
 --     searchable   the row of a memory that is a tree can be searched
 --     searched-cleans      what the search says is what a cleanup would
-use Rattle.std.specs.Prelude.{◌≡◌, List, [], ◌∷◌, Bool, not, ℕ, ◌-◌, ◌≤◌, ◌<◌, ℤ, eqb}
+use Rattle.std.specs.Prelude.{◌≡◌, List, [], ◌∷◌, Bool, not, ℕ, zero, suc, ◌+◌, ◌*◌, ◌-◌, ◌≤◌, ◌<◌, ℤ, eqb, length}
+use Rattle.std.specs.List.{list_any, range_with_len}
 use Rattle.std.proofs.Math.Path.{refl, ap, sym}
 use Rattle.std.proofs.Common.{◌∙◌, subst, arith}
 use Rattle.std.proofs.Math.Bool.{true, false}
@@ -53,13 +54,27 @@ module _ (nodes : List ℕ) (a : ℕ) {node : Node} {b : Bool} (words : node ≡
     unfolding empty_branch
     branch_read e = rw (mark-same ∙ not-false b n) (e ∙ ap (λ (x : Node). empty_group nodes x.first) words)
 
--- ---- the ends of the search
+-- ---- the search
 
-pub searched-one : (nodes : List ℕ) (a : ℕ) {empty : Bool} → HasNode nodes a → empty ≡ empty_branch nodes a → empty ≡ true → Searched nodes true
-searched-one nodes a has e t = record { one = λ _. (a, has, sym e ∙ t); none = λ f. true_false f }
+-- some number of a range passes a test, or none
+some-in : (test : ℕ → Bool) (a n : ℕ) → list_any test (range_with_len a n) ≡ true → (k : ℕ) × (k < a + n) × (test k ≡ true)
+some-in test a zero e = true_false (sym e)
+some-in test a (suc n) e =
+    by_bool (test a) (λ t. (a, omega arith, t)) (λ f. let r = some-in test (a + 1) n (rw f at e) in (r.0, omega (arith, r.1), r.2))
 
-pub searched-none : (nodes : List ℕ) (n : ℕ) → ((a : ℕ) → HasNode nodes a → a < n) → ((a : ℕ) → a < n → empty_branch nodes a ≡ false) → Searched nodes false
-searched-none nodes n all left = record { one = λ t. true_false (sym t); none = λ f a has. left a (all a has) }
+none_in : (test : ℕ → Bool) (a n : ℕ) → list_any test (range_with_len a n) ≡ false → (k : ℕ) → a ≤ k → k < a + n → test k ≡ false
+none_in test a zero e k l h = absurd (omega arith)
+none_in test a (suc n) e k l h =
+    by_bool (test a)
+    (λ t. true_false (rw t at e))
+    (λ f. by_dec (ℕ_discrete k a) (λ s. rw s f) (λ ne. none_in test (a + 1) n (rw f at e) k (omega arith) (omega arith)))
+
+pub searched : (nodes : List ℕ) (n : ℕ) {r : Bool} → 2 * n ≡ length nodes → r ≡ list_any (empty_branch nodes) (range_with_len 0 n) → Searched nodes r
+searched nodes n whole e =
+    record {
+      one = λ t. let s = some-in (empty_branch nodes) 0 n (sym e ∙ t) in (s.0, omega (arith, s.1), s.2);
+      none = λ f a has. none_in (empty_branch nodes) 0 n (sym e ∙ f) a (omega arith) (omega arith);
+    }
 
 -- ---- a node with the mark is a branch of the tree
 

@@ -2,7 +2,8 @@
 --     group-none   no child is left
 --     group-node, last_in, group-rest      the last child of those left, in the row; then the others
 --     group-cleaned        what the two walks leave together
-use Rattle.std.specs.Prelude.{◌≡◌, refl, List, ℕ, suc, ◌+◌, ◌-◌, ◌≤◌, ℤ, length}
+--     Ahead, ahead-start, ahead-node, ahead-next, ahead_end     the loop over the children: its begin, a child's walk, a turn, its end
+use Rattle.std.specs.Prelude.{◌≡◌, refl, List, ℕ, suc, ◌+◌, ◌-◌, ◌≤◌, ◌<◌, ℤ, length}
 use Rattle.std.proofs.Math.Path.{ap, sym, subst}
 use Rattle.std.proofs.Common.{◌∙◌, le_refl, arith}
 use Rattle.arithmetic.proofs.Laws.Tests.{by_bool}
@@ -142,3 +143,33 @@ module _ (nodes : List ℕ) (swept : Swept) (first levels left : ℕ) (some : le
           walk = d.walk ∙ ap (clean_children g f i) c.walk ∙ sym all;
           more = omega (arith, d.more, c.more, sum-last left some (λ j. turned (f j)));
         }
+
+-- ---- the loop, with so many children left
+
+pub record Ahead (nodes₀ : List ℕ) (swept₀ : Swept) (first levels : ℕ) (nodes : List ℕ) (swept : Swept) (left : ℕ) : Type 0 where
+  pub asks : GroupToClean nodes swept first levels left
+  pub whole : (nodes' : List ℕ) (r : Swept) → GroupCleaned nodes swept first levels left nodes' r → GroupCleaned nodes₀ swept₀ first levels 5 nodes' r
+
+pub ahead-start : {nodes : List ℕ} {swept : Swept} {first levels : ℕ} → GroupToClean nodes swept first levels 5
+    → Ahead nodes swept first levels nodes swept 5
+ahead-start w = record { asks = w; whole = λ nodes' r g. g }
+
+module _ {nodes₀ : List ℕ} {swept₀ : Swept} {first levels : ℕ} {nodes : List ℕ} {swept : Swept} {left : ℕ}
+    (a : Ahead nodes₀ swept₀ first levels nodes swept left) where
+  module _ (more : 0 < left) where
+    some : left ≡ 0 → ⊥
+    some z = omega arith
+
+    pub ahead-node : NodeToClean nodes swept (first + (left - 1)) levels
+    ahead-node = group-node nodes swept first levels left some a.asks
+
+    pub ahead-next : {nodes₁ : List ℕ} {next : Swept} → length nodes₁ ≡ length nodes
+        → NodeCleaned nodes swept (first + (left - 1)) levels nodes₁ next → Ahead nodes₀ swept₀ first levels nodes₁ next (left - 1)
+    ahead-next {nodes₁} {next} same node =
+        record {
+          asks = group-rest nodes swept first levels left some nodes₁ next same node a.asks;
+          whole = λ nodes' r g. a.whole nodes' r (group-cleaned nodes swept first levels left some nodes₁ next same node nodes' r g);
+        }
+
+  pub ahead_end : left ≤ 0 → GroupCleaned nodes₀ swept₀ first levels 5 nodes swept
+  ahead_end z = a.whole nodes swept (group-none nodes swept first levels left (omega arith))

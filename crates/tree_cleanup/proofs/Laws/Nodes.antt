@@ -1,6 +1,5 @@
 -- The cleanup's walk of a node: a law for each way through the code, by what the code reads.
 --     walked_in    a node that is walked is in the row
---     empty-read   the test of a group, by the words of its five nodes
 --     group-there, group_empty     the group of a branch is in the row; the test of it says whether the five children are empty
 --     leaf-cleaned         a leaf stays
 --     branch_in, branch-first, branch-level, branch-room   a branch: its group is in the row, a level is left, one turned branch more can be counted
@@ -9,7 +8,7 @@
 use Rattle.std.specs.Prelude.{◌≡◌, refl, ◌≢◌, List, Bool, true, false, not, ◌&&◌, ℕ, zero, suc, ◌+◌, ◌-◌, ◌≤◌, ◌<◌, ℤ}
 use Rattle.std.proofs.Math.Path.{ap, sym}
 use Rattle.std.proofs.Common.{◌∙◌, subst, ne_eqb}
-use Rattle.std.proofs.Math.Bool.{and_assoc}
+use Rattle.std.proofs.Math.Bool.{and_assoc, and-true}
 use native.Mathlib.Omega.{arith}
 use Rattle.std.proofs.Math.Dec.{eqb}
 use Rattle.model.specs.Sums.{indicator, sum_below, changed}
@@ -27,8 +26,7 @@ use Rattle.tree.specs.Trees.{node_count, node_total, NodesIn}
 use Rattle.tree.specs.Cleanup.{collapse, clean_words, TreeAndFree}
 use Rattle.tree.proofs.Laws.Trees.{not-branch, is-branch, node_in-row, mark-no_leaf, shallow-branch}
 use Rattle.tree_cleanup.specs.declared.Swept.{Swept}
-use Rattle.tree_cleanup.specs.Walks.{HasGroup, empty_group, turned_nodes, walk_of, Fits, Cleaned, ChildrenAndFree, clean_children}
-use Rattle.tree_cleanup.specs.Walks.{NodeToClean, NodeCleaned, GroupToClean, GroupCleaned}
+use Rattle.tree_cleanup.specs.Walks.{HasGroup, empty_group, turned_nodes, walk_of, Fits, Cleaned, NodeToClean, NodeCleaned, ChildrenAndFree, clean_children, GroupToClean, GroupCleaned}
 
 -- ---- five zeros make a zero
 
@@ -39,14 +37,6 @@ zero-sum (suc m) n = let e : suc m + n ≡ suc (m + n) = omega arith in ap is_ze
 eqb-zero : (n : ℕ) → eqb n 0 ≡ is_zero n
 eqb-zero zero = refl
 eqb-zero (suc n) = ne_eqb (suc n) 0 (λ e. omega arith)
-
--- ---- the test of a group, by the words that are read
-
-pub empty-read : (nodes : List ℕ) (first : ℕ) {a b c d e : Node} → a ≡ node_at nodes (first + 0) → b ≡ node_at nodes (first + 1) → c ≡ node_at nodes (first + 2)
-    → d ≡ node_at nodes (first + 3) → e ≡ node_at nodes (first + 4)
-    → ((eqb a.count 0 && eqb b.count 0) && (eqb c.count 0 && eqb d.count 0) && eqb e.count 0) ≡ empty_group nodes first
-unfolding empty_group
-empty-read nodes first p q r s t = λ i. (eqb (p i).count 0 && eqb (q i).count 0) && (eqb (r i).count 0 && eqb (s i).count 0) && eqb (t i).count 0
 
 -- ---- the group of a branch that stands
 
@@ -68,7 +58,7 @@ module _ (nodes dots : List ℕ) (rects : List ℤ) (a g : ℕ) (f : ℕ → Tre
   unfolding empty_group
   group_empty =
       rw (child-zero 0 (omega arith), child-zero 1 (omega arith), child-zero 2 (omega arith), child-zero 3 (omega arith), child-zero 4 (omega arith))
-      (simp (zero-sum, and_assoc))
+      (simp (zero-sum, and_assoc, and-true))
 
 -- ---- a branch whose words were read
 

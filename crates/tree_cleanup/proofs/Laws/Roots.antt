@@ -3,7 +3,7 @@
 --     refused-cleaned, no-cleaned  where no change more can be counted: 16 if the search finds a branch, else no
 --     none-turned  the walk turned no branch: no, and the rows are as they were
 --     some-turned  it turned some: what it leaves is what the rule says
-use Rattle.std.specs.Prelude.{◌≡◌, Bool, not, ℕ, zero, suc, ◌+◌, ◌*◌, ◌/◌, ◌<◌, ℤ, length, replicate}
+use Rattle.std.specs.Prelude.{◌≡◌, Bool, not, ℕ, zero, suc, ◌+◌, ◌*◌, ◌/◌, ◌<◌, ℤ, length, replicate, Some, None, Ok, Err}
 use Rattle.std.proofs.Math.Path.{refl, sym}
 use Rattle.std.proofs.Common.{ap, ◌∙◌, subst, le_refl, arith, ext_get_or}
 use mathlib.Core.List.{List, []}
@@ -14,7 +14,7 @@ use Rattle.std.proofs.lemmas.Bool.{not-true, not-false}
 use Rattle.arithmetic.proofs.Laws.Tests.{by_bool}
 use Rattle.geometry.specs.Settings.{D}
 use Rattle.model.specs.declared.State.{State}
-use Rattle.model.specs.declared.answers.YesNoAnswer.TheVariants.{Refused, Yes, No}
+use Rattle.model.specs.declared.refusal.Refusal.TheVariants.{TooManyChanges}
 use Rattle.model.specs.Sums.{sum_below}
 use Rattle.model.proofs.Laws.Sums.{by_dec}
 use Rattle.model.specs.Trees.{Tree, leaf, branch, child_node}
@@ -106,14 +106,14 @@ module _ (s : State) (nodes : List ℕ) where
 
   -- ---- no change more can be counted
 
-  pub refused-cleaned : {fits found : Bool} → fits ≡ can_count s 1 → not fits ≡ true → Searched nodes found → found ≡ true → CleanedUp s nodes nodes (Refused 16)
+  pub refused-cleaned : {fits found : Bool} → fits ≡ can_count s 1 → not fits ≡ true → Searched nodes found → found ≡ true → CleanedUp s nodes nodes (Err TooManyChanges)
   unfolding CleanedUp cleanup_rule
   refused-cleaned {found = found} told past f some = λ dots rects marks x h.
-      refused-exit s nodes dots rects marks (cleanup_rule x) 16
+      refused-exit s nodes dots rects marks (cleanup_rule x) TooManyChanges
       (rw (sym (searched-cleans s nodes dots rects marks x h found f) ∙ some)
       (counted_past (cleaned x) [] true s 1 told (one_more dots rects marks x h) (not-true _ past)))
 
-  pub no-cleaned : {found : Bool} → Searched nodes found → found ≡ false → CleanedUp s nodes nodes No
+  pub no-cleaned : {found : Bool} → Searched nodes found → found ≡ false → CleanedUp s nodes nodes (Ok None)
   unfolding CleanedUp
   no-cleaned {found} f none = λ dots rects marks x h. no-exit dots rects marks x h refl (sym (searched-cleans s nodes dots rects marks x h found f) ∙ none)
 
@@ -127,7 +127,7 @@ module _ (s : State) (nodes : List ℕ) where
     walked dots rects marks x h =
         done dots rects x.tree x.free_groups (root_stood dots rects marks x h) (rw deepest (root-fits dots rects marks x h))
 
-    pub none-turned : r.turned ≡ 0 → CleanedUp s nodes nodes' No
+    pub none-turned : r.turned ≡ 0 → CleanedUp s nodes nodes' (Ok None)
     unfolding CleanedUp cleans
     none-turned z = λ dots rects marks x h.
         let c = walked dots rects marks x h in
@@ -137,7 +137,7 @@ module _ (s : State) (nodes : List ℕ) where
         no-exit dots rects marks x h rows (rw none refl)
 
     pub some-turned : {fits : Bool} {next : State} → fits ≡ can_count s 1 → not fits ≡ false → (r.turned ≡ 0 → ⊥)
-        → next ≡ changed_state s r.head s.free_place s.live → CleanedUp s nodes nodes' (Yes next)
+        → next ≡ changed_state s r.head s.free_place s.live → CleanedUp s nodes nodes' (Ok (Some next))
     unfolding CleanedUp cleanup_rule cleans cleaned
     some-turned told room some e = rw e (λ dots rects marks x h.
         let c = walked dots rects marks x h in

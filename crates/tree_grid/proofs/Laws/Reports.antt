@@ -1,7 +1,7 @@
 -- The report on a memory that is a tree.
 --     rects-places, free-few       N by the row of rectangles; the free places are at most the zero rectangles
 --     live_weigh   a weight over the dots, by the rectangles that are not zero and the zero ones that are not free
---     clear_length, clear_empty, places-ask, has-few, has-live, has-free, rest-asks, rest-fits   what the steps ask
+--     filled, clear_length, clear_empty, places-ask, has-few, has-live, has-free, rest-asks, rest-fits   what the steps ask
 --     Worked, totalled     the row begins with the counts, and the total is the number of pairs
 --     report_eleven, report-twelve, report-many, report-counted        the answers, by the rule
 use Rattle.std.specs.Prelude.{◌≡◌, List, ◌++◌, Bool, true, false, not, cond, ◌&&◌, ℕ, ◌+◌, ◌*◌, ◌-◌, ◌/◌, ◌%◌, ◌≤◌, ◌<◌, ℤ, length, get_or, replicate}
@@ -9,8 +9,8 @@ use Rattle.std.proofs.Math.Path.{refl, ap, sym}
 use Rattle.std.proofs.Common.{subst, ◌∙◌, add-mul, mul-le-mul, mul_comm, le-div_iff_mul-le, div-lt_iff_lt-mul, mod-lt, arith, length-append, length-drop, ext_get_or, get_or-append-add, get_or-drop}
 use Rattle.std.proofs.Math.Decide.{dec_lt}
 use borrow.Author.Tests.{lt-ltb, le-ltb, not-true, not-false}
-use Rattle.std.proofs.Math.ListN.{drop, get_or-append}
-use Rattle.std.proofs.lemmas.List.{length-replicate, get_or-replicate}
+use Rattle.std.proofs.Math.ListN.{take, drop, get_or-append}
+use Rattle.std.proofs.lemmas.List.{length-replicate, length-take-le, get_or-replicate}
 use Rattle.arithmetic.proofs.Laws.Tests.{by_bool}
 use Rattle.geometry.specs.declared.aabb.AABB.{AABB}
 use Rattle.geometry.specs.Rectangles.{flat, same_rect, zero_rect}
@@ -74,6 +74,10 @@ module _ (s : State) (nodes dots : List ℕ) (rects : List ℤ) (marks : List �
       omega (arith, all_weigh k, besides-zero k (rect_at rects) (length rects / 4), both, given)
 
 -- ---- what the steps ask
+
+-- the words before n, filled with 0
+pub filled : (row part : List ℕ) (n : ℕ) → n ≤ length row → part ≡ replicate (length (take n row)) 0 → Cleared row n (part ++ drop n row)
+filled row part n fits e = ap (λ (l : List ℕ). l ++ drop n row) (e ∙ ap (λ (k : ℕ). replicate k 0) (length-take-le n row fits))
 
 pub cleared_by : (row row' : List ℕ) {n m : ℕ} → n ≡ m → Cleared row n row' → Cleared row m row'
 cleared_by row row' e c = subst (λ (k : ℕ). Cleared row k row') e c
@@ -162,7 +166,7 @@ module _ (g : Grid) (fits : sizes_fit g ≡ true) where
   beyond r weight i out =
       let z = sizes g fits in
       let late : rows_of g ≤ i / columns_of g = (le-div_iff_mul-le z.some_columns).1 (omega (arith, mul_comm (columns_of g) (rows_of g))) in
-      let past : (rows_met g r).to ≤ i / columns_of g = omega (arith, (span_met-within (flat r) g.y (down g) (rows_of g) r.y1 r.y2).0) in
+      let past : (rows_met g r).end ≤ i / columns_of g = omega (arith, (span_met-within (flat r) g.y (down g) (rows_of g) r.y1 r.y2).0) in
       cells-none (columns_of g) (columns_met g r) (rows_met g r) weight i (in_past (rows_met g r) (i / columns_of g) past)
 
   -- `places` is N, `spare` how many dots have the zero rectangle

@@ -2,38 +2,43 @@
 --     insert-refused, insert_done  the insert's exits
 --     ask-refused, ask-told        the ask's
 --     place-stale, place-fresh     the placing's
-use Rattle.std.specs.Prelude.{◌≡◌, List, [], ◌≢◌, ℕ, ℤ, length, replicate}
+use Rattle.std.specs.Prelude.{◌≡◌, List, [], ◌≢◌, ℕ, ℤ, length, replicate, Result, Ok, Err}
 use Rattle.std.proofs.Math.Path.{refl, ap, sym}
 use Rattle.std.proofs.Common.{◌∙◌, eq-eqb, ne_eqb}
 use Rattle.model.specs.declared.Dot.{Dot}
 use Rattle.model.specs.declared.State.{State}
 use Rattle.model.specs.declared.Ticket.{Ticket}
 use Rattle.model.specs.declared.answers.Asked.{Asked}
+use Rattle.model.specs.declared.refusal.Refusal.{Refusal}
+use Rattle.model.specs.declared.refusal.Refusal.TheVariants.{StaleTicket}
 use Rattle.model.specs.Shapes.{Shape, inserted}
 use Rattle.model.specs.Layout.{world, Holds}
-use Rattle.model.specs.Calls.{Reply, refused, answered, accept, carried_out, insert_rule}
+use Rattle.model.specs.Calls.{Reply, answered, refuse, overflow, accept, carried_out, insert_rule}
+use Rattle.model.specs.Refusals.{refusal_reply}
+use Rattle.model.proofs.Laws.Refusals.{by_number-map}
 use Rattle.model.specs.Tickets.{asked_of, told, ask_rule, place_rule}
 use Rattle.model.proofs.Laws.Layout.{holds-changes}
 use Rattle.tree.specs.declared.find.Leaf.{Leaf}
 use Rattle.tree.specs.Operations.{CarriedOut}
 use Rattle.tree.proofs.Laws.Operations.{refused-exit, shaped-exit, same-marks}
 use Rattle.tree_insert.specs.declared.landing.Landing.{Landing}
-use Rattle.tree_insert.specs.declared.landing.Landing.TheVariants.{Refused, At}
 use Rattle.tree_insert.specs.InsertAt.{Starts}
 use Rattle.tree_insert.specs.Landing.{Landed, Lands}
 
-module _ {s : State} (dot : Dot) {nodes dots : List ℕ} {rects : List ℤ} (found : Landing) (lands : Lands s dot nodes dots rects found) where
-  landed : (marks : List ℕ) (x : Shape) → Holds (world s nodes dots rects marks) x → {r : Landing} → found ≡ r → Landed s dot nodes dots rects marks x r
+module _ {s : State} (dot : Dot) {nodes dots : List ℕ} {rects : List ℤ} (found : Result Landing Refusal) (lands : Lands s dot nodes dots rects found) where
+  landed : (marks : List ℕ) (x : Shape) → Holds (world s nodes dots rects marks) x → {r : Result Landing Refusal} → found ≡ r
+      → Landed s dot nodes dots rects marks x r
   landed marks x h e = rw e at (lands marks x h)
 
-  pub insert-refused : {k : ℕ} → found ≡ Refused k → CarriedOut (insert_rule dot) s nodes dots rects s nodes dots rects (refused k)
+  pub insert-refused : {k : Refusal} → found ≡ Err k → CarriedOut (insert_rule dot) s nodes dots rects s nodes dots rects (refusal_reply k)
   insert-refused {k} e marks x h = refused-exit s nodes dots rects marks (insert_rule dot x) k (landed marks x h e)
 
-  pub ask-refused : {k : ℕ} → found ≡ Refused k → CarriedOut (ask_rule dot) s nodes dots rects s nodes dots rects (refused k)
+  pub ask-refused : {k : Refusal} → found ≡ Err k → CarriedOut (ask_rule dot) s nodes dots rects s nodes dots rects (refusal_reply k)
   unfolding ask_rule
-  ask-refused {k} e marks x h = refused-exit s nodes dots rects marks (ask_rule dot x) k (ap (told dot x) (landed marks x h e))
+  ask-refused {k} e marks x h =
+      refused-exit s nodes dots rects marks (ask_rule dot x) k (ap (told dot x) (landed marks x h e) ∙ by_number-map (told dot x) refuse overflow k)
 
-  module _ {l : Leaf} {splits : ℕ} (e : found ≡ At l splits) where
+  module _ {l : Leaf} {splits : ℕ} (e : found ≡ Ok (record { leaf = l; splits = splits })) where
     pub begins : (marks : List ℕ) (x : Shape) → Holds (world s nodes dots rects marks) x → Starts s dot nodes dots rects l splits marks x
     begins marks x h = (landed marks x h e).0
 
@@ -59,11 +64,11 @@ module _ {s : State} (dot : Dot) {nodes dots : List ℕ} {rects : List ℤ} (fou
 -- ---- the placing
 
 module _ {s : State} (t : Ticket) {nodes dots : List ℕ} {rects : List ℤ} where
-  pub place-stale : t.changes ≢ s.changes → CarriedOut (place_rule t) s nodes dots rects s nodes dots rects (refused 15)
+  pub place-stale : t.changes ≢ s.changes → CarriedOut (place_rule t) s nodes dots rects s nodes dots rects (refusal_reply StaleTicket)
   unfolding place_rule
   place-stale other marks x h =
       let count = holds-changes (world s nodes dots rects marks) x h in
-      refused-exit s nodes dots rects marks (place_rule t x) 15 (rw (ne_eqb t.changes x.changes (λ e. other (e ∙ sym count))) refl)
+      refused-exit s nodes dots rects marks (place_rule t x) StaleTicket (rw (ne_eqb t.changes x.changes (λ e. other (e ∙ sym count))) refl)
 
   pub place-fresh : {s' : State} {nodes' dots' : List ℕ} {rects' : List ℤ} {reply : Reply ℕ} → t.changes ≡ s.changes
       → CarriedOut (insert_rule t.dot) s nodes dots rects s' nodes' dots' rects' reply

@@ -38,7 +38,8 @@ linked-read nodes dots rects a p hn hp =
     ∙ ap (λ (m : Mem). set_node m a v) (next-stored nodes dots rects p (first_at nodes a) hp)
 
 -- a store of a next that is none of the chain's
-stands_frame : (dots : List ℕ) (rects : List ℤ) (p v h n : ℕ) (ds : List Placed) → HasPlace dots p → sum_over (at_place p) ds ≡ 0 → ChainStands dots rects h n ds
+stands_frame : (dots : List ℕ) (rects : List ℤ) (p v h n : ℕ) (ds : List Placed) → HasPlace dots p → sum_over (at_place p) ds ≡ 0
+    → ChainStands dots rects h n ds
     → ChainStands (set_next_at dots p v) rects h n ds
 stands_frame dots rects p v h n [] hp z s = s
 stands_frame dots rects p v h n (d ∷ ds) hp z s =
@@ -145,12 +146,13 @@ module _ {nodes₀ dots₀ : List ℕ} {rects : List ℤ} {cell : CenteredAABB} 
           let five : child < 5 = omega (arith, to, route-child with_cell (rect_at rects at)) in
           (five, omega (arith, r.nodes_in), omega (arith, r.small child five))
 
-      pub deal-on : {next : ℕ} {nodes' dots' : List ℕ} → next ≡ next_at dots at
+      pub deal-on : {next left' : ℕ} {nodes' dots' : List ℕ} → left' ≡ left - 1 → next ≡ next_at dots at
           → nodes' ≡ set_node_at nodes (first + child) (record { first = at; count = count_at nodes (first + child) + 1 })
           → dots' ≡ set_next_at dots at (first_at nodes (first + child))
-          → Dealing nodes₀ dots₀ rects cell first at₀ left₀ nodes' dots' next (left - 1)
-      deal-on {next} {nodes'} {dots'} ex en ed =
-          record {
+          → Dealing nodes₀ dots₀ rects cell first at₀ left₀ nodes' dots' next left'
+      deal-on {next} {left'} {nodes'} {dots'} el ex en ed =
+          rw el
+          (record {
             nodes_kept = ap length en ∙ node-length nodes (first + child) _ ∙ dealing.nodes_kept;
             dots_kept = ap length ed ∙ next-length dots at (first_at nodes (first + child)) ∙ dealing.dots_kept;
             rest = λ n e s.
@@ -166,4 +168,4 @@ module _ {nodes₀ dots₀ : List ℕ} {rects : List ℤ} {cell : CenteredAABB} 
                 (subst (λ (y : List ℕ). goal nodes' y (next_at dots at)) (ap link there ∙ sym ed)
                 (subst (λ (x : List ℕ). goal x (link (route_cell n.cell (rect_at rects at))) (next_at dots at)) (ap node there ∙ sym en)
                 (turn.0, turn.1 ∙ now.1)));
-          }
+          })

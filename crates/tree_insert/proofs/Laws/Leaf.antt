@@ -3,7 +3,7 @@
 --     listed_free, countable       the free groups can be walked along, and the splits counted there
 --     needed-is    what is told is the splits needed, or that they are too many for the free groups
 --     inserting-start      the insert is on its way
-use Rattle.std.specs.Prelude.{◌≡◌, refl, List, ℕ, zero, suc, ◌≤◌, ℤ, length}
+use Rattle.std.specs.Prelude.{◌≡◌, refl, List, ℕ, zero, suc, ◌≤◌, ℤ, length, Option}
 use Rattle.std.proofs.Common.{ap, sym, ◌∙◌, subst, arith}
 use Rattle.geometry.specs.declared.aabb.AABB.{AABB}
 use Rattle.geometry.specs.declared.settings.Settings.{Settings}
@@ -34,7 +34,6 @@ use Rattle.tree.specs.Paths.{put}
 use Rattle.tree.specs.declared.find.Leaf.{Leaf}
 use Rattle.tree.proofs.Laws.Stored.{holds-stored}
 use Rattle.tree.proofs.Laws.Leaves.{here-sum, here-count, here-stands, leads-leaf}
-use Rattle.tree_insert.specs.declared.needed.Needed.{Needed}
 use Rattle.tree_insert.specs.FreeGroups.{FreeIn, SomeFree}
 use Rattle.tree_insert.proofs.Laws.FreeGroups.{free-listed}
 use Rattle.tree_insert.specs.SplitsNeeded.{Countable, needed_of, SplitsTold}
@@ -140,7 +139,7 @@ module _ {s : State} {nodes dots : List ℕ} {rects : List ℤ} {marks : List �
     pub countable : Countable s.settings dots rects node l.node_data
     countable = here-counted.0
 
-    pub needed-is : {needed : Needed} → SplitsTold s.settings nodes dots rects node l.node_data dot.rect s.free_group needed
+    pub needed-is : {needed : Option ℕ} → SplitsTold s.settings nodes dots rects node l.node_data dot.rect s.free_group needed
         → needed ≡ needed_of (splits_needed dot x) (length x.free_groups)
     needed-is told =
         let e = holds-settings w₀ x h in

@@ -2,7 +2,7 @@
 --     not_4, not_10, not_5, not_6  what each test told that was passed
 --     refuse_4, refuse_10, refuse_5 .. refuse_7, refuse_16  what the rule then says
 --     lands        what is left to do, where none refuses
-use Rattle.std.specs.Prelude.{◌≡◌, ◌||◌, true, Bool, not, ℕ, ◌+◌, ◌≤◌, ◌<◌, ℤ, eqb}
+use Rattle.std.specs.Prelude.{◌≡◌, ◌||◌, true, Bool, not, ℕ, ◌+◌, ◌≤◌, ◌<◌, ℤ, eqb, Option, Some, None}
 use Rattle.std.proofs.Math.Path.{refl, ap, sym}
 use Rattle.std.proofs.Common.{◌∙◌, arith}
 use Rattle.std.proofs.Math.Bool.{false}
@@ -32,8 +32,6 @@ use Rattle.memory.specs.declared.node.Node.{Node}
 use Rattle.memory.specs.Nodes.{node_at}
 use Rattle.tree.specs.declared.find.Leaf.{Leaf}
 use Rattle.tree.specs.Routes.{LeadsTo}
-use Rattle.tree_insert.specs.declared.needed.Needed.{Needed}
-use Rattle.tree_insert.specs.declared.needed.Needed.TheVariants.{Splits, TooMany}
 use Rattle.tree_insert.specs.SplitsNeeded.{needed_of, SplitsTold}
 use Rattle.tree_insert.proofs.Laws.SplitsNeeded.{told-short, told-enough}
 use Rattle.tree_insert.proofs.Laws.Leaf.{needed-is}
@@ -71,7 +69,7 @@ pub not_6 : {s : State} {dots : List ℕ} {dot : Dot} {places : ℕ} → Not5 s 
 not_6 p q r = record { near = p.near; ink = p.ink; inside = p.inside; room = omega (arith, q, r) }
 
 -- what was told at the leaf
-pub record Counted (s : State) (nodes dots : List ℕ) (rects : List ℤ) (dot : Dot) (l : Leaf) (needed : Needed) : Type 0 where
+pub record Counted (s : State) (nodes dots : List ℕ) (rects : List ℤ) (dot : Dot) (l : Leaf) (needed : Option ℕ) : Type 0 where
   pub tests : Not6 s dots dot
   pub leads : LeadsTo s.settings nodes dot.rect l
   pub node : Node
@@ -111,20 +109,20 @@ module _ {s : State} {nodes dots : List ℕ} {rects : List ℤ} {marks : List �
       rw (p.near, p.ink, contains-same ∙ p.inside, eq-eqb (size x.tree) x.places full) refl
 
   -- for every shape that the words hold
-  module _ {l : Leaf} {needed : Needed} (c : Counted s nodes dots rects dot l needed) where
+  module _ {l : Leaf} {needed : Option ℕ} (c : Counted s nodes dots rects dot l needed) where
     p : Not6 s dots dot
     p = c.tests
 
     told : needed ≡ needed_of (splits_needed dot x) (length x.free_groups)
     told = needed-is h dot c.leads c.words c.tells
 
-    pub refuse_7 : needed ≡ TooMany → Refuses 7
+    pub refuse_7 : needed ≡ None → Refuses 7
     unfolding insert_rule insert_verdict
     refuse_7 t =
         let short : length x.free_groups < splits_needed dot x = told-short (splits_needed dot x) (length x.free_groups) (sym t ∙ told) in
         rw (p.near, p.ink, contains-same ∙ p.inside, room-is p.room, lt-ltb (length x.free_groups) (splits_needed dot x) short) refl
 
-    module _ {splits : ℕ} (t : needed ≡ Splits splits) {fits : Bool} (count : fits ≡ can_count s 1) where
+    module _ {splits : ℕ} (t : needed ≡ Some splits) {fits : Bool} (count : fits ≡ can_count s 1) where
       enough : (splits ≡ splits_needed dot x) × (splits ≤ length x.free_groups)
       enough = told-enough (splits_needed dot x) (length x.free_groups) (sym t ∙ told)
 

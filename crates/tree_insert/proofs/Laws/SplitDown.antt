@@ -211,13 +211,14 @@ module _ {r : AABB} {rects : List ℤ} {nodes₀ dots₀ : List ℕ} {head₀ : 
     pub down_data : InRange n.cell × (n.depth < 255)
     down_data = (now₀.range, inserting-depth now₀ some)
 
-    pub down-on : {nodes' dots' : List ℕ} {next child : ℕ} {n' : NodeData} → length nodes' ≡ length nodes → length dots' ≡ length dots
+    pub down-on : {nodes' dots' : List ℕ} {next child left' : ℕ} {n' : NodeData} → left' ≡ left - 1 → length nodes' ≡ length nodes → length dots' ≡ length dots
         → Split nodes dots rects node n.cell head nodes' dots' next → child ≡ route_cell n.cell r → n' ≡ child_data n child
-        → SplittingDown r rects nodes₀ dots₀ head₀ l.node l.node_data left₀ nodes' dots' next (head + child) n' (left - 1)
-    down-on ln ld done ec en =
-        record {
+        → SplittingDown r rects nodes₀ dots₀ head₀ l.node l.node_data left₀ nodes' dots' next (head + child) n' left'
+    down-on el ln ld done ec en =
+        rw el
+        (record {
           nodes_kept = ln ∙ down.nodes_kept;
           dots_kept = ld ∙ down.dots_kept;
           continues = λ x dot place_head e i.
               inserting-on (down.continues x dot place_head e i) some ln ld done (ec ∙ ap (route_cell n.cell) (sym e)) en;
-        }
+        })

@@ -4,7 +4,7 @@
 --     Counting, need_start, need_on        the count of the splits: its loop's invariant, begin and turn
 --     need_depth, need_fall        at a turn: a child is not too deep, and fewer steps are left
 --     need_short, need_done        its ends: no group is left for a split; no split is due
-use Rattle.std.specs.Prelude.{◌≡◌, refl, List, [], ◌∷◌, Bool, true, false, cond, ◌&&◌, ◌⊎◌, ℕ, ◌+◌, ◌-◌, ◌≤◌, zero, suc, ◌<◌, ℤ, length, eqb, leb}
+use Rattle.std.specs.Prelude.{◌≡◌, refl, List, [], ◌∷◌, Some, None, Bool, true, false, cond, ◌&&◌, ◌⊎◌, ℕ, ◌+◌, ◌-◌, ◌≤◌, zero, suc, ◌<◌, ℤ, length, eqb, leb}
 use Rattle.std.proofs.Common.{ap, sym, ◌∙◌, inl, inr, ⊎_elim, arith, eq-eqb, le-leb, leb-true, leb-false}
 use Rattle.std.proofs.Math.Path.{subst}
 use Rattle.std.proofs.Math.Decide.{ℕ_discrete}
@@ -24,7 +24,7 @@ use Rattle.model.specs.Sums.{sum_over}
 use Rattle.model.specs.Trees.{Placed, leaf}
 use Rattle.model.specs.declared.Dot.{Dot}
 use Rattle.model.specs.Layout.{none}
-use Rattle.model.specs.Memory.{next_at, rect_at}
+use Rattle.model.specs.Memory.{rect_at}
 use Rattle.model.specs.Insert.{must_split, route_dot, deal}
 use Rattle.model.proofs.Laws.Insert.{levels_suffice}
 use Rattle.model.specs.Insert.{split_count}
@@ -32,11 +32,11 @@ use Rattle.model.proofs.Laws.Sums.{sum_over-one, by_dec}
 use Rattle.model.proofs.Laws.Dealing.{deal_pick}
 use Rattle.memory.specs.declared.node.Node.{Node}
 use Rattle.memory.specs.Nodes.{node_at}
-use Rattle.memory.specs.Rows.{HasPlace, HasRect}
+use Rattle.memory.specs.Rows.{HasRect}
+use Rattle.memory.specs.Chains.{Passed}
 use Rattle.tree.specs.Chains.{ChainStands}
 use Rattle.tree.proofs.Laws.Chains.{stands_here}
 use Rattle.tree.proofs.Laws.Descent.{steps_left, steps_fall}
-use Rattle.tree_insert.specs.declared.needed.Needed.TheVariants.{Splits, TooMany}
 use Rattle.tree_insert.specs.SplitsNeeded.{within, SomeChain, Countable, needed_of, SplitsTold}
 use Rattle.tree_insert.proofs.Laws.FreeGroups.{Walking, walk_start, walk-on, walk_end}
 use Rattle.tree_insert.proofs.Laws.Bounds.{one-most, Chosen, all-chosen, child-chosen}
@@ -53,43 +53,50 @@ pub tally_start : {dots : List ℕ} {rects : List ℤ} {b : Bounds} {head total 
 tally_start = record { few = omega arith; rest = λ chain s. (chain, s, omega arith) }
 
 module _ {dots : List ℕ} {rects : List ℤ} {b : Bounds} {head total at left count : ℕ} (t : Tallying dots rects b head total at left count) where
-  pub tally_here : SomeChain dots rects head total → 1 ≤ left → HasPlace dots at × HasRect rects at
-  tally_here given some = let r = t.rest given.chain given.stands in stands_here dots rects at left r.0 r.1 some
+  pub tally_here : SomeChain dots rects head total → {place next left' : ℕ} → Passed dots at left place next left' → HasRect rects place
+  tally_here given p =
+      let r = t.rest given.chain given.stands in subst (HasRect rects) (sym p.here) (stands_here dots rects at left r.0 r.1 p.some).1
 
   -- a dot is counted where its rectangle lies within the bounds
-  pub tally_on : 1 ≤ left → {rect : AABB} {holds : Bool} {next count' : ℕ} → rect ≡ rect_at rects at → holds ≡ in_bounds b rect
-      → ((holds ≡ true) × (count' ≡ count + 1)) ⊎ ((holds ≡ false) × (count' ≡ count)) → next ≡ next_at dots at
-      → Tallying dots rects b head total next (left - 1) count'
-  tally_on some {holds = holds} {next} {count'} er eh came en =
-      record { few = omega (arith, step, one-most holds); rest = λ chain s. go chain (t.rest chain s).0 (t.rest chain s).1 (t.rest chain s).2 }
+  pub tally_on : {place next left' : ℕ} → Passed dots at left place next left' → {rect : AABB} {holds : Bool} {count' : ℕ}
+      → rect ≡ rect_at rects place → holds ≡ in_bounds b rect
+      → ((holds ≡ true) × (count' ≡ count + 1)) ⊎ ((holds ≡ false) × (count' ≡ count))
+      → Tallying dots rects b head total next left' count'
+  tally_on {next = next} {left'} p {holds = holds} {count'} er eh came =
+      rw (p.rest)
+      (record {
+        few = omega (arith, step, one-most holds, p.some);
+        rest = λ chain s. go chain (t.rest chain s).0 (t.rest chain s).1 (t.rest chain s).2;
+      })
     where
       step : count' ≡ count + cond holds 1 0
       step = ⊎_elim (λ w. rw w.0 w.1) (λ w. rw w.0 (w.1 ∙ omega arith)) came
 
       go : (chain ds : List Placed) → ChainStands dots rects at left ds → sum_over (within b) chain ≡ count + sum_over (within b) ds
           → (ds : List Placed) × ChainStands dots rects next (left - 1) ds × (sum_over (within b) chain ≡ count' + sum_over (within b) ds)
-      go chain [] g q = absurd (omega arith)
+      go chain [] g q = absurd (omega (arith, p.some))
       go chain (d ∷ ds) g q =
           let here : cond holds 1 0 ≡ within b d =
-          ap (λ (y : Bool). cond y 1 0) (eh ∙ ap (in_bounds b) (er ∙ ap (λ (y : Dot). y.rect) g.3)) in
-          (ds, subst (λ (y : ℕ). ChainStands dots rects y (left - 1) ds) (sym en) g.5, omega (arith, here, step))
+          ap (λ (y : Bool). cond y 1 0) (eh ∙ ap (in_bounds b) (er ∙ ap (rect_at rects) p.here ∙ ap (λ (y : Dot). y.rect) g.3)) in
+          (ds, subst (λ (y : ℕ). ChainStands dots rects y (left - 1) ds) (sym p.next) g.5, omega (arith, here, step))
 
-  pub tally_over : left ≤ 0 → (chain : List Placed) → ChainStands dots rects head total chain → count ≡ sum_over (within b) chain
+  pub tally_over : left ≡ 0 → (chain : List Placed) → ChainStands dots rects head total chain → count ≡ sum_over (within b) chain
   tally_over none_left chain s = go (t.rest chain s).0 (t.rest chain s).1 (t.rest chain s).2
     where
-      go : (ds : List Placed) → ChainStands dots rects at left ds → sum_over (within b) chain ≡ count + sum_over (within b) ds → count ≡ sum_over (within b) chain
+      go : (ds : List Placed) → ChainStands dots rects at left ds → sum_over (within b) chain ≡ count + sum_over (within b) ds
+          → count ≡ sum_over (within b) chain
       go [] g q = omega arith
       go (d ∷ ds) g q = absurd (omega (arith, g.4))
 
 -- ---- what is told
 
-pub told-short : (splits groups : ℕ) → TooMany ≡ needed_of splits groups → groups < splits
+pub told-short : (splits groups : ℕ) → None ≡ needed_of splits groups → groups < splits
 told-short splits groups e =
     by_bool (leb splits groups)
     (λ t. let z : ◌≡◌ {A = ℕ} 0 1 = cc (rw t at e) in absurd (omega arith))
     (λ f. omega (arith, leb-false splits groups f))
 
-pub told-enough : {told : ℕ} (splits groups : ℕ) → Splits told ≡ needed_of splits groups → (told ≡ splits) × (told ≤ groups)
+pub told-enough : {told : ℕ} (splits groups : ℕ) → Some told ≡ needed_of splits groups → (told ≡ splits) × (told ≤ groups)
 told-enough {told} splits groups e =
     by_bool (leb splits groups)
     (λ t. let same : told ≡ splits = cc (rw t at e) in (same, omega (arith, leb-true splits groups t)))
@@ -106,7 +113,8 @@ child-stays : (s : Settings) (n : NodeData) (chain : List Placed) → n.is_child
 unfolding may_divide
 child-stays s n chain e = rw e refl
 
-no-split : (s : Settings) (levels : ℕ) (n : NodeData) (r : AABB) (chain : List Placed) → must_split s n chain ≡ false → split_count s levels n r (leaf chain) ≡ 0
+no-split : (s : Settings) (levels : ℕ) (n : NodeData) (r : AABB) (chain : List Placed) → must_split s n chain ≡ false
+    → split_count s levels n r (leaf chain) ≡ 0
 no-split s zero n r chain e = refl
 no-split s (suc levels) n r chain e = rw e refl
 
@@ -150,7 +158,7 @@ module _ {s : Settings} {nodes dots : List ℕ} {rects : List ℤ} {node : Node}
     one : 1 ≤ s.smallest_cell
     one = (accepted s given.settings).cell
 
-    pub need_done : full? ≡ false → SplitsTold s nodes dots rects node n₀ r head (Splits splits)
+    pub need_done : full? ≡ false → SplitsTold s nodes dots rects node n₀ r head (Some splits)
     need_done not k levels₀ high free listed =
         let c = counting.all k levels₀ high in
         let stays : must_split s n c.chain ≡ false =
@@ -195,7 +203,7 @@ module _ {s : Settings} {nodes dots : List ℕ} {rects : List ℤ} {node : Node}
               record { levels = levels; chain = chain; high = omega arith; more = omega (arith, rw (must chain c.0) at same); chosen = c.1 }
 
       -- no group is left
-      pub need_short : group ≡ none → SplitsTold s nodes dots rects node n₀ r head TooMany
+      pub need_short : group ≡ none → SplitsTold s nodes dots rects node n₀ r head None
       need_short e k levels₀ high free listed =
           let all = split_count s levels₀ n₀ r (leaf k.chain) in
           rw (lt-leb all (length free) (omega (arith, (divided k levels₀ high).more, walk_end counting.walk e free listed))) refl

@@ -1,19 +1,20 @@
 -- The landing's refusal, or the insert at its leaf.
-use Rattle.std.proofs.Common.{rules}
+use Rattle.model.proofs.Laws.Refusals.{handed-on}
 use Rattle.tree_insert.proofs.Laws.Answers.{begins, insert-refused, insert_done}
 use Rattle.tree_insert.proofs.insert_dot.Goals as goal
 
-pub insert_at-requires : goal.insert_at-requires
-insert_at-requires c =
+pub insert_at-after-requires : goal.insert_at-after-requires
+insert_at-after-requires c =
     let tree = c.requires in
     record {
       marks = tree.marks;
       shape = tree.shape;
-      starts = begins c.args.dot c.land.result c.land.ensures (search) tree.marks tree.shape tree.holds;
+      starts = begins c.args.dot c.land.result c.land.ensures c.in_ok-landing.was tree.marks tree.shape tree.holds;
     }
 
-pub returns-in-Refused : goal.returns-in-Refused
-returns-in-Refused c = search (rules, insert-refused)
+pub returns-in_err-landing : goal.returns-in_err-landing
+returns-in_err-landing c =
+    rw (handed-on c.from_residual.ensures.1) (insert-refused c.args.dot c.land.result c.land.ensures c.in_err-landing.was)
 
-pub returns-in-At : goal.returns-in-At
-returns-in-At c = search (rules, insert_done)
+pub returns : goal.returns
+returns c = insert_done c.args.dot c.land.result c.land.ensures c.in_ok-landing.was c.insert_at-after.ensures

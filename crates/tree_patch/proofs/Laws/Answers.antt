@@ -15,6 +15,7 @@ use Rattle.model.specs.declared.State.{State}
 use Rattle.model.specs.declared.patch.Patch.{Patch}
 use Rattle.model.specs.Shapes.{Shape}
 use Rattle.model.specs.Layout.{world, layout, cleared, Holds}
+use Rattle.model.specs.declared.refusal.Refusal.TheVariants.{TooManyChanges}
 use Rattle.model.specs.Calls.{refused, answered, accept, exit, carried_out, largest_count, counted, can_count}
 use Rattle.model.specs.Laying.{laid}
 use Rattle.model.specs.Patch.{patch_fits, patch_rects, numbered, patch_dots, patch_verdict, patch_rule}
@@ -24,7 +25,7 @@ use Rattle.model.proofs.Laws.Laying.{laid-changes}
 use Rattle.model.proofs.Laws.Patch.{patch-goes, patch_cases, numbered-length}
 use Rattle.tree.specs.Operations.{IsTree, CarriedOut}
 use Rattle.tree.proofs.Laws.Operations.{refused-exit}
-use Rattle.tree_patch.specs.declared.lay.Laid.{Laid}
+use Rattle.model.specs.declared.answers.Changed.{Changed}
 use Rattle.tree_patch.specs.Laid.{rects_before, none_laid, Progress, SomeProgress, Proceeds}
 use Rattle.tree_patch.specs.Goes.{GoesTold}
 use Rattle.tree_patch.proofs.Laws.Order.{before_end}
@@ -51,7 +52,7 @@ module _ {s : State} {p : Patch} {nodes dots : List ℕ} {rects : List ℤ} {goe
     unfolding patch_rule
     refused-16 past marks x h =
         let ds = patch_dots p in
-        refused-exit s nodes dots rects marks (patch_rule p x) 16
+        refused-exit s nodes dots rects marks (patch_rule p x) TooManyChanges
         (ap counted (goes-whole marks x h) ∙ counted_past (laid ds x) [] (length ds) s number count (more marks x h) (not-true counts past))
 
   module _ (fits : patch_fits p ≡ true) (n : not goes ≡ false) {number : ℕ} (many : number ≡ length (patch_dots p)) {counts : Bool}
@@ -72,7 +73,7 @@ module _ {s : State} {p : Patch} {nodes dots : List ℕ} {rects : List ℤ} {goe
     pub some-starts : IsTree s nodes dots rects → SomeProgress p 0 0 (none_laid s) nodes dots rects
     some-starts t = record { marks = t.marks; shape = t.shape; progress = starts t.marks t.shape t.holds }
 
-    pub laid-whole : (l : Laid) (nodes' dots' : List ℕ) (rects' : List ℤ)
+    pub laid-whole : (l : Changed) (nodes' dots' : List ℕ) (rects' : List ℤ)
         → Proceeds p 0 0 (none_laid s) nodes dots rects 0 (16 * p.rows) l nodes' dots' rects'
         → CarriedOut (patch_rule p) s nodes dots rects l.state nodes' dots' rects' (answered l.number)
     unfolding cleared patch_dots patch_rule

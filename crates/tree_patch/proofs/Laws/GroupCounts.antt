@@ -1,10 +1,11 @@
 -- The count of a group, child by child.
 --     group-none   no child is left
 --     group-child, group-others    what the count of the first child asks, and that of the others
---     group-counted, group-fits    both together; their sum fits
-use Rattle.std.specs.Prelude.{◌≡◌, List, ℕ, ◌+◌, ◌-◌, ◌≤◌, ℤ}
+--     group-counted        both together
+--     Ahead, ahead-start, ahead-child, ahead-fits, ahead-next, ahead_end   the loop over the children: its begin, a child's count, a turn, its end
+use Rattle.std.specs.Prelude.{◌≡◌, List, ℕ, ◌+◌, ◌-◌, ◌≤◌, ◌<◌, ℤ}
 use Rattle.std.proofs.Math.Path.{refl}
-use Rattle.std.proofs.Common.{arith}
+use Rattle.std.proofs.Common.{ap, ◌∙◌, subst, arith}
 use Rattle.geometry.specs.declared.settings.Settings.{Settings}
 use Rattle.geometry.specs.Cells.{child_data}
 use Rattle.geometry.proofs.Laws.Ranges.{child-range}
@@ -64,6 +65,63 @@ module _ (s : Settings) (nodes dots : List ℕ) (rects : List ℤ) (c : Cell) (l
       unfolding CellCounted GroupCounted
       group-counted f st = omega (arith, child (f (5 - left)) (child-stands f st), others f (others-stand f st), splits_are f)
 
-      pub group-fits : here + rest ≤ most_splits
-      unfolding GroupCounted
-      group-fits = omega (arith, group-counted w.children w.stand, w.small)
+    group-spent : (here : ℕ) → CellCounted s nodes dots rects below p here
+        → here + splits_of_last s p nodes c w.children (left - 1) ≡ splits_of_last s p nodes c w.children left
+    unfolding CellCounted
+    group-spent here child = omega (arith, child (w.children (5 - left)) (child-stands w.children w.stand), splits_are w.children)
+
+-- ---- the loop, with so many splits counted and so many children left
+
+pub record Ahead (s : Settings) (nodes dots : List ℕ) (rects : List ℤ) (c : Cell) (p : Patch) (sums : List ℕ) (splits left : ℕ) : Type 0 where
+  pub asks : GroupCount s nodes dots rects c left p sums
+  pub fits : splits + splits_of_last s p nodes c asks.children left ≤ most_splits
+  pub whole : (r : ℕ) → GroupCounted s nodes dots rects c left p r → GroupCounted s nodes dots rects c 4 p (splits + r)
+
+module _ {s : Settings} {nodes dots : List ℕ} {rects : List ℤ} {c : Cell} {p : Patch} {sums : List ℕ} where
+  pub ahead-start : GroupCount s nodes dots rects c 4 p sums → Ahead s nodes dots rects c p sums 0 4
+  ahead-start w =
+      record {
+        asks = w;
+        fits = omega (arith, w.small);
+        whole = λ r g. let same : r ≡ 0 + r = omega arith in subst (GroupCounted s nodes dots rects c 4 p) same g;
+      }
+
+  module _ {splits child : ℕ} (a : Ahead s nodes dots rects c p sums splits (5 - child)) where
+    module _ (from : 1 ≤ child) (more : child < 5) {below : Cell} (e : below ≡ cell_below nodes c child) where
+      some : ¬ (5 - child ≡ 0)
+      some z = omega arith
+
+      its : below ≡ cell_below nodes c (5 - (5 - child))
+      its = let this : child ≡ 5 - (5 - child) = omega arith in e ∙ ap (cell_below nodes c) this
+
+      pub ahead-child : CellCount s nodes dots rects below p sums
+      ahead-child = group-child s nodes dots rects c (5 - child) p some a.asks its
+
+      module _ (here : ℕ) (counted : CellCounted s nodes dots rects below p here) where
+        spent : here + splits_of_last s p nodes c a.asks.children ((5 - child) - 1) ≡ splits_of_last s p nodes c a.asks.children (5 - child)
+        spent = group-spent s nodes dots rects c (5 - child) p some a.asks its here counted
+
+        pub ahead-fits : splits + here ≤ most_splits
+        ahead-fits = omega (arith, a.fits, spent)
+
+        turned : Ahead s nodes dots rects c p sums (splits + here) ((5 - child) - 1)
+        unfolding group-others
+        turned =
+            record {
+              asks = group-others s nodes dots rects c (5 - child) p some a.asks its;
+              fits = omega (arith, a.fits, spent);
+              whole = λ r g.
+                  let same : splits + (here + r) ≡ splits + here + r = omega arith in
+                  subst (GroupCounted s nodes dots rects c 4 p) same
+                  (a.whole (here + r) (group-counted s nodes dots rects c (5 - child) p some a.asks its here r counted g));
+            }
+
+        pub ahead-next : Ahead s nodes dots rects c p sums (splits + here) (5 - (child + 1))
+        ahead-next =
+            let others : (5 - child) - 1 ≡ 5 - (child + 1) = omega arith in
+            subst (Ahead s nodes dots rects c p sums (splits + here)) others turned
+
+    pub ahead_end : 5 ≤ child → GroupCounted s nodes dots rects c 4 p splits
+    ahead_end z =
+        let same : splits + 0 ≡ splits = omega arith in
+        subst (GroupCounted s nodes dots rects c 4 p) same (a.whole 0 (group-none s nodes dots rects c (5 - child) p (omega arith)))

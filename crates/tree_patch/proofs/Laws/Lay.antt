@@ -1,7 +1,7 @@
 -- One dot more is laid.
 --     next_fits, next-number       the numbers of the next dot fit
 --     lay_refused, lay_laid        its insert is not refused, and after it one dot more is laid
-use Rattle.std.specs.Prelude.{◌≡◌, refl, Bool, true, false, not, ◌&&◌, ℕ, suc, ◌+◌, ◌≤◌, ◌<◌, ℤ, pos, negsuc, replicate, leb}
+use Rattle.std.specs.Prelude.{◌≡◌, refl, Bool, true, false, not, ◌&&◌, ℕ, suc, ◌+◌, ◌≤◌, ◌<◌, ℤ, pos, negsuc, replicate, leb, Result, Ok, Err}
 use Rattle.std.proofs.Math.Path.{ap, sym, subst}
 use Rattle.std.proofs.Common.{◌∙◌, SFits, leb-true}
 use mathlib.Core.List.{List, [], ◌∷◌, ◌++◌}
@@ -14,26 +14,26 @@ use Rattle.arithmetic.proofs.Laws.Tests.{true_false}
 use Rattle.geometry.specs.Rectangles.{near, far_out}
 use Rattle.model.specs.declared.Dot.{Dot}
 use Rattle.model.specs.declared.State.{State}
-use Rattle.model.specs.declared.answers.InsertAnswer.{InsertAnswer}
-use Rattle.model.specs.declared.answers.InsertAnswer.TheVariants as insert
+use Rattle.model.specs.declared.refusal.Refusal.{Refusal}
 use Rattle.model.specs.declared.patch.Patch.{Patch}
 use Rattle.model.specs.Lists.{All}
 use Rattle.model.specs.Dots.{acceptable_dot}
 use Rattle.model.specs.Shapes.{Shape, inserted, splits_made}
 use Rattle.model.specs.Layout.{world, layout, cleared, Holds, same_settings}
 use Rattle.model.specs.Calls.{answered, accept, exit, carried_out, counted, insert_rule}
-use Rattle.model.specs.Answers.{insert_state, insert_reply}
+use Rattle.model.specs.Answers.{change_state, change_reply}
 use Rattle.model.specs.Book.{accepted}
 use Rattle.model.specs.Laying.{laid, CanLay}
 use Rattle.model.specs.Patch.{numbered, patch_dots, ids_fit}
 use Rattle.model.proofs.Laws.Dots.{dot-upright}
+use Rattle.model.proofs.Laws.Refusals.{refused-accepted}
 use Rattle.model.proofs.Laws.Layout.{same-settings, holds-settings}
 use Rattle.model.proofs.Laws.Calls.{counted_low, world_of_lem, reply_of}
 use Rattle.model.proofs.Laws.Patch.{numbered-length}
 use Rattle.model.proofs.Laws.Laying.{FirstLaid, can_lay-first, can_lay-append, laid-changes, laid-append}
 use Rattle.tree.specs.Operations.{CarriedOut}
 use Rattle.tint.proofs.Laws.Within.{sides}
-use Rattle.tree_patch.specs.declared.lay.Laid.{Laid}
+use Rattle.model.specs.declared.answers.Changed.{Changed}
 use Rattle.tree_patch.specs.Laid.{rects_before, dots_before, DotAt, patch_dot, DotFits, Progress}
 use Rattle.tree_patch.proofs.Laws.Order.{here-laid, numbered-append, patch-parts}
 
@@ -63,7 +63,7 @@ all-four true true false d e = true_false e
 all-four true false c d e = true_false e
 all-four false b c d e = true_false e
 
-module _ {p : Patch} {column row : ℕ} {l : Laid} {nodes dots : List ℕ} {rects : List ℤ} where
+module _ {p : Patch} {column row : ℕ} {l : Changed} {nodes dots : List ℕ} {rects : List ℤ} where
   module _ (at : DotAt p column row) where
     -- with the dots before it laid
     module _ {marks : List ℕ} {x : Shape} (g : Progress p column row l nodes dots rects marks x) where
@@ -137,25 +137,28 @@ module _ {p : Patch} {column row : ℕ} {l : Laid} {nodes dots : List ℕ} {rect
           ∙ laid-append (dots_before p column row) (patch_dot p column row (length (rects_before p column row)) ∷ []) x
           ∙ ap (λ (n : ℕ). inserted (patch_dot p column row n) before) (sym g.number)
 
-    module _ {d : Dot} (is : d ≡ patch_dot p column row l.number) (a : InsertAnswer) {nodes' dots' : List ℕ} {rects' : List ℤ}
-        (done : CarriedOut (insert_rule d) l.state nodes dots rects (insert_state l.state a) nodes' dots' rects' (insert_reply a)) where
+    module _ {d : Dot} (is : d ≡ patch_dot p column row l.number) (a : Result Changed Refusal) {nodes' dots' : List ℕ} {rects' : List ℤ}
+        (done : CarriedOut (insert_rule d) l.state nodes dots rects (change_state l.state a) nodes' dots' rects' (change_reply a)) where
       left : {marks : List ℕ} {x : Shape} (g : Progress p column row l nodes dots rects marks x)
-          → exit {B = ℕ} (world (insert_state l.state a) nodes' dots' rects' (replicate (length marks) 0)) [] (insert_reply a)
+          → exit {B = ℕ} (world (change_state l.state a) nodes' dots' rects' (replicate (length marks) 0)) [] (change_reply a)
           ≡ exit (layout (inserted (dot g) (before g))) [] (answered (splits_made (dot g) (before g)))
       left {marks} g =
           done marks (before g) g.holds
           ∙ ap (carried_out (world l.state nodes dots rects marks) []) (ap (λ (d : Dot). insert_rule d (before g)) is ∙ inserts g)
 
-      pub lay_refused : {k : ℕ} → a ≡ insert.Refused k → {marks : List ℕ} {x : Shape} → Progress p column row l nodes dots rects marks x → ⊥
-      lay_refused refusal g = true_false (sym (ap accepted (reply_of (left g))) ∙ ap (λ (b : InsertAnswer). accepted (insert_reply b)) refusal)
+      pub lay_refused : {e : Refusal} → a ≡ Err e → {marks : List ℕ} {x : Shape} → Progress p column row l nodes dots rects marks x → ⊥
+      lay_refused {e} refusal g =
+          true_false
+          (sym (ap accepted (reply_of (left g))) ∙ ap (λ (b : Result Changed Refusal). accepted (change_reply b)) refusal ∙ refused-accepted ℕ e)
 
       -- the settings are kept
-      pub lay_laid : {k : ℕ} {s' u : State} → a ≡ insert.Splits k s' → u ≡ same_settings l.state s'
+      pub lay_laid : {c : Changed} {u : State} → a ≡ Ok c → u ≡ same_settings l.state c.state
           → {marks : List ℕ} {x : Shape} → Progress p column row l nodes dots rects marks x
           → Progress p (suc column) row (record { state = u; number = l.number + 1 }) nodes' dots' rects' marks x
       unfolding cleared inserted
-      lay_laid {s' = s'} {u = u} told changed {marks} {x} g =
-          let after = ap (insert_state l.state) told in
+      lay_laid {c} {u} told changed {marks} {x} g =
+          let s' = c.state in
+          let after = ap (change_state l.state) told in
           let holds : Holds (world s' nodes' dots' rects' marks) (inserted (dot g) (before g)) =
           record {
             valid = (first g).valid;

@@ -11,12 +11,12 @@ use Rattle.model.specs.Layout.{world, Holds}
 use Rattle.model.specs.Laying.{laid}
 use Rattle.model.specs.Patch.{numbered}
 use Rattle.tint.specs.Rows.{NextDot}
-use Rattle.tree_patch.specs.declared.lay.Laid.{Laid}
+use Rattle.model.specs.declared.answers.Changed.{Changed}
 use Rattle.tree_patch.specs.Laid.{rects_before, Progress, SomeProgress, Proceeds}
 use Rattle.tree_patch.proofs.Laws.Order.{before-row, here-skipped}
 
 -- two columns and rows before which the same dots stand
-moved : {p : Patch} {column row column' row' : ℕ} {l : Laid} {nodes dots : List ℕ} {rects : List ℤ} {marks : List ℕ} {x : Shape}
+moved : {p : Patch} {column row column' row' : ℕ} {l : Changed} {nodes dots : List ℕ} {rects : List ℤ} {marks : List ℕ} {x : Shape}
     → rects_before p column row ≡ rects_before p column' row'
     → Progress p column row l nodes dots rects marks x → Progress p column' row' l nodes dots rects marks x
 moved {p} {l = l} {nodes} {dots} {rects} {marks} {x} same g =
@@ -29,16 +29,16 @@ moved {p} {l = l} {nodes} {dots} {rects} {marks} {x} same g =
       number = g.number ∙ ap length same;
     }
 
-module _ {p : Patch} {column row : ℕ} {l : Laid} {nodes dots : List ℕ} {rects : List ℤ} where
+module _ {p : Patch} {column row : ℕ} {l : Changed} {nodes dots : List ℕ} {rects : List ℤ} where
   pub proceeds_none : Proceeds p column row l nodes dots rects column row l nodes dots rects
   proceeds_none = record { on = λ marks x g. g }
 
-  module _ {column₁ row₁ : ℕ} {l₁ : Laid} {nodes₁ dots₁ : List ℕ} {rects₁ : List ℤ} where
+  module _ {column₁ row₁ : ℕ} {l₁ : Changed} {nodes₁ dots₁ : List ℕ} {rects₁ : List ℤ} where
     pub proceeds_some : SomeProgress p column row l nodes dots rects → Proceeds p column row l nodes dots rects column₁ row₁ l₁ nodes₁ dots₁ rects₁
         → SomeProgress p column₁ row₁ l₁ nodes₁ dots₁ rects₁
     proceeds_some s on = record { marks = s.marks; shape = s.shape; progress = on.on s.marks s.shape s.progress }
 
-    pub proceeds_then : {column₂ row₂ : ℕ} {l₂ : Laid} {nodes₂ dots₂ : List ℕ} {rects₂ : List ℤ}
+    pub proceeds_then : {column₂ row₂ : ℕ} {l₂ : Changed} {nodes₂ dots₂ : List ℕ} {rects₂ : List ℤ}
         → Proceeds p column row l nodes dots rects column₁ row₁ l₁ nodes₁ dots₁ rects₁
         → Proceeds p column₁ row₁ l₁ nodes₁ dots₁ rects₁ column₂ row₂ l₂ nodes₂ dots₂ rects₂
         → Proceeds p column row l nodes dots rects column₂ row₂ l₂ nodes₂ dots₂ rects₂

@@ -9,10 +9,10 @@ returns-then-not-can_lay c = refused-14 c.can_lay.ensures (ap not c.if-not-can_l
 pub returns-then-not-can_count : goal.returns-then-not-can_count
 returns-then-not-can_count c = refused-16 c.can_lay.ensures (ap not c.if-not-can_lay.false) c.dots_number.ensures c.can_count.ensures (ap not c.if-not-can_count.true)
 
-pub lay_rows-laid-requires : goal.lay_rows-laid-requires
-lay_rows-laid-requires c = some-starts c.can_lay.ensures c.requires.1 (ap not c.if-not-can_lay.false) c.dots_number.ensures c.can_count.ensures (ap not c.if-not-can_count.false)
+pub lay_rows-requires : goal.lay_rows-requires
+lay_rows-requires c = some-starts c.can_lay.ensures c.requires.1 (ap not c.if-not-can_lay.false) c.dots_number.ensures c.can_count.ensures (ap not c.if-not-can_count.false)
     c.requires.0
 
 pub returns : goal.returns
 returns c = laid-whole c.can_lay.ensures c.requires.1 (ap not c.if-not-can_lay.false) c.dots_number.ensures c.can_count.ensures (ap not c.if-not-can_count.false)
-    _ _ _ _ c.lay_rows-laid.ensures
+    _ _ _ _ c.lay_rows.ensures

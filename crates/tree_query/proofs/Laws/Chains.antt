@@ -2,8 +2,9 @@
 --     dot-unreached, dot-missed, dot-hit   one dot
 --     Rest         what has been listed and what is left make the whole
 --     rest-start, rest-turn, rest_end      the loop's three steps
---     rest-place, rest-room        what a turn asks: the place that it reads is in the rows, and the row has room
-use Rattle.std.specs.Prelude.{◌≡◌, Bool, not, ℕ, ◌+◌, ◌-◌, ◌≤◌, ◌<◌, ℤ}
+--     has-chain    the chain can be walked
+--     rest-place, rest-room        what a turn asks: the place that it reads is in the rows, and few are listed
+use Rattle.std.specs.Prelude.{◌≡◌, Bool, not, ℕ, ◌+◌, ◌-◌, ◌≤◌, ◌<◌, ℤ, set}
 use Rattle.std.proofs.Math.Path.{refl, ap, sym, subst}
 use Rattle.std.proofs.Common.{◌∙◌, add-one}
 use mathlib.Core.List.{List, [], ◌∷◌}
@@ -22,34 +23,35 @@ use Rattle.model.specs.Trees.{Placed}
 use Rattle.model.specs.Layout.{none}
 use Rattle.model.specs.Memory.{read, next_at, dot_at, Chained}
 use Rattle.memory.specs.Rows.{HasPlace, HasRect}
+use Rattle.memory.specs.Chains.{HasChain, Passed}
 use Rattle.tree.specs.Trees.{InRows}
+use Rattle.tree.proofs.Laws.Chains.{chain_has}
 use Rattle.model.specs.declared.answers.Found.{Found}
-use Rattle.tree_query.specs.Rows.{kept, kept_all}
+use Rattle.std.proofs.lemmas.List.Edits.{sets}
 use Rattle.tree_query.specs.Walks.{ids, chain_hits, hits_after, row_with, after, row_after, Left, ChainWalk, ChainWalked}
-use Rattle.tree_query.proofs.Laws.Rows.{kept-length}
 
 -- ---- one dot
 
-module _ (q : Window) (d : Dot) (room : ℕ) (row : List ℕ) (at : ℕ) where
-  missed : is_hit q d ≡ false → (at ≡ hits_after q d at) × (row ≡ row_with q d room row at)
+module _ (q : Window) (d : Dot) (row : List ℕ) (at : ℕ) where
+  missed : is_hit q d ≡ false → (at ≡ hits_after q d at) × (row ≡ row_with q d row at)
   unfolding hits_after row_with
   missed e = (rw e refl, rw e refl)
 
-  pub dot-unreached : {b : Bool} → b ≡ reaches q.rect d.rect → not b ≡ true → (at ≡ hits_after q d at) × (row ≡ row_with q d room row at)
+  pub dot-unreached : {b : Bool} → b ≡ reaches q.rect d.rect → not b ≡ true → (at ≡ hits_after q d at) × (row ≡ row_with q d row at)
   unfolding is_hit
   dot-unreached {b} test n = missed (rw (unreached q.rect d.rect (sym test ∙ not-true b n)) refl)
 
-  pub dot-missed : {b : Bool} → b ≡ is_hit q d → not b ≡ true → (at ≡ hits_after q d at) × (row ≡ row_with q d room row at)
+  pub dot-missed : {b : Bool} → b ≡ is_hit q d → not b ≡ true → (at ≡ hits_after q d at) × (row ≡ row_with q d row at)
   dot-missed {b} test n = missed (sym test ∙ not-true b n)
 
-  pub dot-hit : {b : Bool} → b ≡ is_hit q d → not b ≡ false → (row' : List ℕ) → row' ≡ kept room row at d.id
-      → (at + 1 ≡ hits_after q d at) × (row' ≡ row_with q d room row at)
+  pub dot-hit : {b : Bool} → b ≡ is_hit q d → not b ≡ false → (row' : List ℕ) → row' ≡ set row at d.id
+      → (at + 1 ≡ hits_after q d at) × (row' ≡ row_with q d row at)
   unfolding hits_after row_with
   dot-hit {b} test n row' k = let e = sym test ∙ not-false b n in (rw e refl, rw e k)
 
 -- ---- the loop
 
-module _ (q : Window) (dots : List ℕ) (rects : List ℤ) (room : ℕ) where
+module _ (q : Window) (dots : List ℕ) (rects : List ℤ) where
   abbrev Chain : ℕ → List Placed → Type 0
   Chain head chain = Chained (read [] dots rects) head chain none
 
@@ -60,32 +62,30 @@ module _ (q : Window) (dots : List ℕ) (rects : List ℤ) (room : ℕ) where
     pub long : length chain ≡ left
     pub in_rows : All (InRows dots rects) whole → All (InRows dots rects) chain
     pub listed : at + length (chain_hits q chain) ≡ at₀ + length (chain_hits q whole)
-    pub written : kept_all room row at (ids (chain_hits q chain)) ≡ kept_all room row₀ at₀ (ids (chain_hits q whole))
+    pub written : sets row at (ids (chain_hits q chain)) ≡ sets row₀ at₀ (ids (chain_hits q whole))
 
   pub record Rest (row₀ : List ℕ) (at₀ head count : ℕ) (row : List ℕ) (at place left : ℕ) : Type 0 where
-    pub same : length row ≡ length row₀
     pub bound : at + left ≤ 65536
     pub rest : (whole : List Placed) → Chain head whole → length whole ≡ count → RestOf row₀ at₀ whole row at place left
 
   pub rest-start : {row : List ℕ} {at head count : ℕ} → at + count ≤ 65536 → Rest row at head count row at head count
   rest-start h =
       record {
-        same = refl;
         bound = h;
         rest = λ whole s l. record { chain = whole; stands = s; long = l; in_rows = λ a. a; listed = refl; written = refl };
       }
 
   module _ {row₀ : List ℕ} {at₀ head count : ℕ} {row : List ℕ} {at place left : ℕ} (inv : Rest row₀ at₀ head count row at place left) where
     turn_of : (whole : List Placed) → RestOf row₀ at₀ whole row at place left → 0 < left
-        → RestOf row₀ at₀ whole (row_with q (dot_at dots rects place) room row at) (hits_after q (dot_at dots rects place) at)
+        → RestOf row₀ at₀ whole (row_with q (dot_at dots rects place) row at) (hits_after q (dot_at dots rects place) at)
         (next_at dots place) (left - 1)
     unfolding hits_after row_with
     turn_of whole r h = go r.chain r.stands r.long r.in_rows r.listed r.written
       where
         go : (chain : List Placed) → Chain place chain → length chain ≡ left → (All (InRows dots rects) whole → All (InRows dots rects) chain)
             → at + length (chain_hits q chain) ≡ at₀ + length (chain_hits q whole)
-            → kept_all room row at (ids (chain_hits q chain)) ≡ kept_all room row₀ at₀ (ids (chain_hits q whole))
-            → RestOf row₀ at₀ whole (row_with q (dot_at dots rects place) room row at) (hits_after q (dot_at dots rects place) at)
+            → sets row at (ids (chain_hits q chain)) ≡ sets row₀ at₀ (ids (chain_hits q whole))
+            → RestOf row₀ at₀ whole (row_with q (dot_at dots rects place) row at) (hits_after q (dot_at dots rects place) at)
             (next_at dots place) (left - 1)
         go [] s l i c w = absurd (omega (arith, l))
         go (d ∷ ds) s l i c w =
@@ -102,64 +102,57 @@ module _ (q : Window) (dots : List ℕ) (rects : List ℤ) (room : ℕ) where
               long = long;
               in_rows = λ a. (i a).1;
               listed = omega (arith, rw e at c);
-              written = ap (λ (x : Dot). kept_all room (kept room row at x.id) (at + 1) (ids (chain_hits q ds))) at_place
-                  ∙ ap (λ (k : ℕ). kept_all room (kept room row at d.dot.id) k (ids (chain_hits q ds))) (add-one at) ∙ (rw e at w);
+              written = ap (λ (x : Dot). sets (set row at x.id) (at + 1) (ids (chain_hits q ds))) at_place
+                  ∙ ap (λ (k : ℕ). sets (set row at d.dot.id) k (ids (chain_hits q ds))) (add-one at) ∙ (rw e at w);
             }))
             (λ e.
             let miss : is_hit q (dot_at dots rects place) ≡ false = ap (is_hit q) at_place ∙ e in
             rw miss
             (record { chain = ds; stands = next; long = long; in_rows = λ a. (i a).1; listed = rw e at c; written = rw e at w }))
 
-    row_kept : length (row_with q (dot_at dots rects place) room row at) ≡ length row
-    unfolding row_with
-    row_kept = by_bool (is_hit q (dot_at dots rects place)) (λ e. rw e (kept-length room row at (dot_at dots rects place).id)) (λ e. rw e refl)
-
     at_most : hits_after q (dot_at dots rects place) at ≤ at + 1
     unfolding hits_after
     at_most = by_bool (is_hit q (dot_at dots rects place)) (λ e. rw e (omega arith)) (λ e. rw e (omega arith))
 
-    turned : 0 < left → Rest row₀ at₀ head count (row_with q (dot_at dots rects place) room row at) (hits_after q (dot_at dots rects place) at)
+    turned : 0 < left → Rest row₀ at₀ head count (row_with q (dot_at dots rects place) row at) (hits_after q (dot_at dots rects place) at)
         (next_at dots place) (left - 1)
-    turned h =
-        record {
-          same = row_kept ∙ inv.same;
-          bound = omega (arith, inv.bound, at_most);
-          rest = λ whole s l. turn_of whole (inv.rest whole s l) h;
-        }
+    turned h = record { bound = omega (arith, inv.bound, at_most); rest = λ whole s l. turn_of whole (inv.rest whole s l) h }
 
-    -- a turn, by what its calls ensure
-    pub rest-turn : 0 < left → {d : Dot} {row' : List ℕ} {at' place' : ℕ}
-        → d ≡ dot_at dots rects place → at' ≡ hits_after q d at → row' ≡ row_with q d room row at → place' ≡ next_at dots place
-        → Rest row₀ at₀ head count row' at' place' (left - 1)
-    rest-turn h e k r n = rw (r, k, n, e) (turned h)
+    module _ {p place' left' : ℕ} (t : Passed dots place left p place' left') where
+      -- a turn, by what its calls ensure
+      pub rest-turn : {d : Dot} {row' : List ℕ} {at' : ℕ} → d ≡ dot_at dots rects p → at' ≡ hits_after q d at → row' ≡ row_with q d row at
+          → Rest row₀ at₀ head count row' at' place' left'
+      rest-turn e k r = rw (r, k, e, t.here, t.next, t.rest) (turned t.some)
 
-    -- the place that a turn reads
-    pub rest-place : {found : Found} → ChainWalk dots rects room row₀ found head count → 0 < left → HasPlace dots place × HasRect rects place
-    rest-place w h =
-        let r = inv.rest w.chain w.stands w.long in
-        go r.chain r.stands r.long (r.in_rows w.dots_in)
-      where
-        go : (chain : List Placed) → Chain place chain → length chain ≡ left → All (InRows dots rects) chain → HasPlace dots place × HasRect rects place
-        go [] s l a = absurd (omega (arith, l))
-        go (d ∷ ds) s l a = subst (λ (p : ℕ). HasPlace dots p × HasRect rects p) (sym s.0) a.0
+      -- the place that a turn reads
+      pub rest-place : {found : Found} → ChainWalk dots rects found head count → HasPlace dots p × HasRect rects p
+      rest-place w =
+          let r = inv.rest w.chain w.stands w.long in
+          subst (λ (k : ℕ). HasPlace dots k × HasRect rects k) (sym t.here) (go r.chain r.stands r.long (r.in_rows w.dots_in))
+        where
+          go : (chain : List Placed) → Chain place chain → length chain ≡ left → All (InRows dots rects) chain → HasPlace dots place × HasRect rects place
+          go [] s l a = absurd (omega (arith, l, t.some))
+          go (d ∷ ds) s l a = subst (λ (p : ℕ). HasPlace dots p × HasRect rects p) (sym s.0) a.0
 
-    -- what a turn asks of the row and of the hits
-    pub rest-room : {found : Found} → ChainWalk dots rects room row₀ found head count → 0 < left → (room ≤ length row) × (at < 65536)
-    rest-room w h = (omega (arith, inv.same, w.fits), omega (arith, inv.bound))
+      pub rest-room : at < 65536
+      rest-room = omega (arith, inv.bound, t.some)
+
+pub has-chain : {dots : List ℕ} {rects : List ℤ} {found : Found} {head count : ℕ} → ChainWalk dots rects found head count → HasChain dots head count
+has-chain {dots} {rects} {head = head} w = subst (HasChain dots head) w.long (chain_has dots rects head w.chain w.stands w.dots_in)
 
 -- nothing is left: the whole chain is listed
-module _ (q : Window) (dots : List ℕ) (rects : List ℤ) (room : ℕ) {row₀ : List ℕ} (found : Found)
+module _ (q : Window) (dots : List ℕ) (rects : List ℤ) {row₀ : List ℕ} (found : Found)
     {head count : ℕ} {row : List ℕ} {at place left : ℕ} where
-  pub rest_end : Rest q dots rects room row₀ found.hits head count row at place left → left ≤ 0
-      → ChainWalked q dots rects room row₀ found head count row (record { hits = at; opened = found.opened })
+  pub rest_end : Rest q dots rects row₀ found.hits head count row at place left → left ≡ 0
+      → ChainWalked q dots rects row₀ found head count row (record { hits = at; opened = found.opened })
   unfolding ChainWalked after row_after
   rest_end inv z = λ whole s l.
       let r = inv.rest whole s l in
       go whole r.chain r.long r.listed r.written
     where
       go : (whole chain : List Placed) → length chain ≡ left → at + length (chain_hits q chain) ≡ found.hits + length (chain_hits q whole)
-          → kept_all room row at (ids (chain_hits q chain)) ≡ kept_all room row₀ found.hits (ids (chain_hits q whole))
-          → Left room row₀ found (chain_hits q whole) 0 row (record { hits = at; opened = found.opened })
+          → sets row at (ids (chain_hits q chain)) ≡ sets row₀ found.hits (ids (chain_hits q whole))
+          → Left row₀ found (chain_hits q whole) 0 row (record { hits = at; opened = found.opened })
       go whole [] l c w =
           let hits : at ≡ found.hits + length (chain_hits q whole) = omega (arith, c) in
           let opened : found.opened ≡ found.opened + 0 = omega arith in

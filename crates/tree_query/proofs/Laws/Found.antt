@@ -1,6 +1,5 @@
 -- What a walk has found.
 --     left-none, left_then         nothing more; one walk after another
---     left-length                  the row keeps its length
 --     hits-size, opened_total      no more dots are listed than there are, and no more nodes opened
 use Rattle.std.specs.Prelude.{◌≡◌, refl, List, [], ◌++◌, Bool, cond}
 use Rattle.std.proofs.Math.Path.{ap, sym}
@@ -20,19 +19,19 @@ use Rattle.model.specs.Trees.{Placed, Tree, leaf, branch, size}
 use Rattle.model.specs.Query.{hits, opened}
 use Rattle.model.specs.declared.answers.Found.{Found}
 use Rattle.tree.specs.Trees.{node_total}
-use Rattle.tree_query.specs.Rows.{kept_all}
+use Rattle.std.proofs.lemmas.List.Edits.{sets}
 use Rattle.tree_query.specs.Walks.{ids, after, row_after, Left}
-use Rattle.tree_query.proofs.Laws.Rows.{kept_append, kept_all-length}
+use Rattle.tree.proofs.Laws.Rows.{sets_append}
 
-pub left-none : (room : ℕ) (row : List ℕ) (found : Found) → Left room row found [] 0 row found
+pub left-none : (row : List ℕ) (found : Found) → Left row found [] 0 row found
 unfolding after row_after
-left-none room row found =
+left-none row found =
     let h : found.hits ≡ found.hits + 0 = omega arith in
     let o : found.opened ≡ found.opened + 0 = omega arith in
     record { answer = λ i. record { hits = h i; opened = o i }; written = refl }
 
-module _ {room : ℕ} {row row₁ row₂ : List ℕ} {found f₁ f₂ : Found} {ds es : List Placed} {j k : ℕ} where
-  pub left_then : Left room row found ds j row₁ f₁ → Left room row₁ f₁ es k row₂ f₂ → Left room row found (ds ++ es) (j + k) row₂ f₂
+module _ {row row₁ row₂ : List ℕ} {found f₁ f₂ : Found} {ds es : List Placed} {j k : ℕ} where
+  pub left_then : Left row found ds j row₁ f₁ → Left row₁ f₁ es k row₂ f₂ → Left row found (ds ++ es) (j + k) row₂ f₂
   unfolding after row_after
   left_then a b =
       let at : f₁.hits ≡ found.hits + length ds = ap (λ (f : Found). f.hits) a.answer in
@@ -44,15 +43,10 @@ module _ {room : ℕ} {row row₁ row₂ : List ℕ} {found f₁ f₂ : Found} {
       record {
         answer = λ i. record { hits = hits i; opened = opened i };
         written = b.written
-            ∙ (λ i. kept_all room (a.written i) (next i) (ids es))
-            ∙ sym (kept_append room row found.hits (ids ds) (ids es))
-            ∙ ap (kept_all room row found.hits) (sym (map-append id_of ds es));
+            ∙ (λ i. sets (a.written i) (next i) (ids es))
+            ∙ sym (sets_append row found.hits (ids ds) (ids es))
+            ∙ ap (sets row found.hits) (sym (map-append id_of ds es));
       }
-
-module _ {room : ℕ} {row : List ℕ} {found : Found} {ds : List Placed} {k : ℕ} {row' : List ℕ} {r : Found} where
-  pub left-length : Left room row found ds k row' r → length row' ≡ length row
-  unfolding row_after
-  left-length l = ap length l.written ∙ kept_all-length room row found.hits (ids ds)
 
 module _ (q : Window) where
   pub hits-size : (n : NodeData) (t : Tree) → length (hits q n t) ≤ size t

@@ -1,9 +1,11 @@
 -- The walk over the leaves of a group, child by child.
---     leaves_none, leaves_then, leaves-row         nothing more; one walk after another; the row keeps its length
+--     leaves_none, leaves_then     nothing more; one walk after another
 --     words_total                  six words a leaf, and no more leaves than nodes
 --     group_empty                  no child is left
 --     group-child, group-others, group-leaves      the first child's walk; what the others' asks; both together
-use Rattle.std.specs.Prelude.{◌≡◌, List, [], ◌++◌, ℕ, ◌+◌, ◌*◌, ◌-◌, ◌≤◌, ℤ, length}
+--     Ahead        the loop over the children: what it has left to do leads to the whole
+--     ahead-start, ahead-child, ahead-next, ahead_end      its begin; a child's walk; a turn; its end
+use Rattle.std.specs.Prelude.{◌≡◌, List, [], ◌++◌, ℕ, ◌+◌, ◌*◌, ◌-◌, ◌≤◌, ◌<◌, ℤ, length}
 use Rattle.std.proofs.Math.Path.{refl, ap, subst}
 use Rattle.std.proofs.Common.{sym, ◌∙◌, arith, length-append}
 use Rattle.std.proofs.Math.Bool.{false}
@@ -18,26 +20,23 @@ use Rattle.model.specs.Query.{leaves_of, leaf_count}
 use Rattle.model.proofs.Laws.Query.{leaves-length}
 use Rattle.tree.specs.Trees.{node_total, sum_last}
 use Rattle.tree.proofs.Laws.Trees.{sum_step}
-use Rattle.tree_query.specs.Rows.{kept_all}
+use Rattle.std.proofs.lemmas.List.Edits.{sets}
+use Rattle.tree.proofs.Laws.Rows.{sets_append}
 use Rattle.tree_query.specs.Leaves.{LeafStands, group_leaves, LeavesLeft, LeafWalk, LeafWalked, LeafGroup, LeafGroupWalked}
-use Rattle.tree_query.proofs.Laws.Rows.{kept_append, kept_all-length}
 use Rattle.tree.proofs.Laws.Children.{join_step}
 
 -- ---- one walk after another
 
-leaves_none : (room : ℕ) (row : List ℤ) (at : ℕ) → LeavesLeft room row at [] row at
-leaves_none room row at = record { position = omega arith; written = refl }
+leaves_none : (row : List ℤ) (at : ℕ) → LeavesLeft row at [] row at
+leaves_none row at = record { position = omega arith; written = refl }
 
-module _ {room : ℕ} {row row₁ row₂ : List ℤ} {at k₁ k₂ : ℕ} {xs ys : List ℤ} where
-  leaves_then : LeavesLeft room row at xs row₁ k₁ → LeavesLeft room row₁ k₁ ys row₂ k₂ → LeavesLeft room row at (xs ++ ys) row₂ k₂
+module _ {row row₁ row₂ : List ℤ} {at k₁ k₂ : ℕ} {xs ys : List ℤ} where
+  leaves_then : LeavesLeft row at xs row₁ k₁ → LeavesLeft row₁ k₁ ys row₂ k₂ → LeavesLeft row at (xs ++ ys) row₂ k₂
   leaves_then a b =
       record {
         position = omega (arith, a.position, b.position, length-append xs ys);
-        written = b.written ∙ (λ i. kept_all room (a.written i) (a.position i) ys) ∙ sym (kept_append room row at xs ys);
+        written = b.written ∙ (λ i. sets (a.written i) (a.position i) ys) ∙ sym (sets_append row at xs ys);
       }
-
-leaves-row : {room : ℕ} {row : List ℤ} {at : ℕ} {words row' : List ℤ} {k : ℕ} → LeavesLeft room row at words row' k → length row' ≡ length row
-leaves-row {room} {row} {at} {words} l = ap length l.written ∙ kept_all-length room row at words
 
 -- six words a leaf, and no more leaves than nodes
 leaf_total : (t : Tree) → leaf_count t ≤ node_total t
@@ -48,14 +47,14 @@ leaf_total (branch g f) =
 pub words_total : (n : NodeData) (t : Tree) → length (leaves_of n t) ≤ 6 * node_total t
 words_total n t = omega (arith, leaves-length n t, leaf_total t)
 
--- ---- a group
+-- ---- a group: its last children
 
-module _ (nd : NodeData) (nodes : List ℕ) (room : ℕ) (row : List ℤ) (at first levels left : ℕ) where
-  pub group_empty : left ≡ 0 → LeafGroupWalked nd nodes room row at first levels left row at
+module _ (nd : NodeData) (nodes : List ℕ) (row : List ℤ) (at first levels left : ℕ) where
+  pub group_empty : left ≡ 0 → LeafGroupWalked nd nodes row at first levels left row at
   unfolding LeafGroupWalked
-  group_empty z = λ g f h s. subst (λ (k : ℕ). LeavesLeft room row at (group_leaves nd f k) row at) (sym z) (leaves_none room row at)
+  group_empty z = λ g f h s. subst (λ (k : ℕ). LeavesLeft row at (group_leaves nd f k) row at) (sym z) (leaves_none row at)
 
-  module _ (some : left ≡ 0 → ⊥) (w : LeafGroup nd nodes room row at first levels left) where
+  module _ (some : left ≡ 0 → ⊥) (w : LeafGroup nd nodes at first levels left) where
     abbrev child : ℕ
     child = 5 - left
 
@@ -68,7 +67,7 @@ module _ (nd : NodeData) (nodes : List ℕ) (room : ℕ) (row : List ℤ) (at fi
     total_step : sum_last left (λ j. node_total (w.children j)) ≡ node_total tree + sum_last (left - 1) (λ j. node_total (w.children j))
     total_step = sum_step (λ j. node_total (w.children j)) left (omega (arith, some))
 
-    pub group-child : (below : NodeData) → below ≡ child_data nd child → LeafWalk below nodes room row at (first + child) levels
+    pub group-child : (below : NodeData) → below ≡ child_data nd child → LeafWalk below nodes at (first + child) levels
     unfolding child_data
     group-child below e =
         let node : first + child ≡ child_node w.group child = omega (arith, w.head) in
@@ -78,22 +77,21 @@ module _ (nd : NodeData) (nodes : List ℕ) (room : ℕ) (row : List ℤ) (at fi
           tree = tree;
           stands = subst (λ (a : ℕ). LeafStands nodes levels a tree) (sym node) child-stands;
           small = omega (arith, w.small, total_step);
-          fits = w.fits;
           cell_fits = subst (λ (n : NodeData). InRange n.cell) (sym e) (child-range nd.cell child w.cell_fits);
           deep = omega (arith, w.deep, depth);
         }
 
     module _ (below : NodeData) (e : below ≡ child_data nd child) (row₁ : List ℤ) (k₁ : ℕ)
-        (node : LeafWalked below nodes room row at (first + child) levels row₁ k₁) where
+        (node : LeafWalked below nodes row at (first + child) levels row₁ k₁) where
       child-leaves : (g : ℕ) (f : ℕ → Tree) → first ≡ child_node g 0 → LeafStands nodes levels (child_node g child) (f child)
-          → LeavesLeft room row at (leaves_of (child_data nd child) (f child)) row₁ k₁
+          → LeavesLeft row at (leaves_of (child_data nd child) (f child)) row₁ k₁
       unfolding LeafWalked
       child-leaves g f h s =
           let at-child : first + child ≡ child_node g child = omega (arith, h) in
-          subst (λ (n : NodeData). LeavesLeft room row at (leaves_of n (f child)) row₁ k₁) e
+          subst (λ (n : NodeData). LeavesLeft row at (leaves_of n (f child)) row₁ k₁) e
           (node (f child) (subst (λ (a : ℕ). LeafStands nodes levels a (f child)) (sym at-child) s))
 
-      pub group-others : LeafGroup nd nodes room row₁ k₁ first levels (left - 1)
+      pub group-others : LeafGroup nd nodes k₁ first levels (left - 1)
       group-others =
           let l = child-leaves w.group w.children w.head child-stands in
           record {
@@ -103,15 +101,60 @@ module _ (nd : NodeData) (nodes : List ℕ) (room : ℕ) (row : List ℤ) (at fi
             few = omega (arith, w.few);
             stands = λ j low b. w.stands j (omega (arith, some)) b;
             small = omega (arith, w.small, total_step, l.position, words_total (child_data nd child) tree);
-            fits = omega (arith, w.fits, leaves-row l);
             cell_fits = w.cell_fits;
             deep = w.deep;
           }
 
-      pub group-leaves : (row₂ : List ℤ) (k₂ : ℕ) → LeafGroupWalked nd nodes room row₁ k₁ first levels (left - 1) row₂ k₂
-          → LeafGroupWalked nd nodes room row at first levels left row₂ k₂
+      pub group-leaves : (row₂ : List ℤ) (k₂ : ℕ) → LeafGroupWalked nd nodes row₁ k₁ first levels (left - 1) row₂ k₂
+          → LeafGroupWalked nd nodes row at first levels left row₂ k₂
       unfolding LeafGroupWalked
       group-leaves row₂ k₂ rest = λ g f h s.
           let one = child-leaves g f h (s child (omega (arith, w.few)) (omega (arith, some))) in
           rw (join_step (λ i. leaves_of (child_data nd i) (f i)) left (omega (arith, some)))
           (leaves_then one (rest g f h (λ j low b. s j (omega (arith, some)) b)))
+
+-- ---- the loop, before a child
+
+pub record Ahead (nd : NodeData) (nodes : List ℕ) (row₀ : List ℤ) (at₀ first levels : ℕ) (row : List ℤ) (at child : ℕ) : Type 0 where
+  pub from : 1 ≤ child
+  pub asks : LeafGroup nd nodes at first levels (5 - child)
+  pub whole : (row' : List ℤ) (r : ℕ) → LeafGroupWalked nd nodes row at first levels (5 - child) row' r
+      → LeafGroupWalked nd nodes row₀ at₀ first levels 4 row' r
+
+pub ahead-start : {nd : NodeData} {nodes : List ℕ} (row : List ℤ) {at first levels : ℕ} → LeafGroup nd nodes at first levels 4
+    → Ahead nd nodes row at first levels row at 1
+ahead-start row w = record { from = omega arith; asks = w; whole = λ row' r g. g }
+
+module _ {nd : NodeData} {nodes : List ℕ} {row₀ : List ℤ} {at₀ first levels : ℕ} {row : List ℤ} {at child : ℕ}
+    (a : Ahead nd nodes row₀ at₀ first levels row at child) where
+  module _ (more : child < 5) {below : NodeData} (e : below ≡ child_data nd child) where
+    this : 5 - (5 - child) ≡ child
+    this = omega arith
+
+    others : (5 - child) - 1 ≡ 5 - (child + 1)
+    others = omega arith
+
+    its : below ≡ child_data nd (5 - (5 - child))
+    its = e ∙ ap (child_data nd) (sym this)
+
+    pub ahead-child : LeafWalk below nodes at (first + child) levels
+    ahead-child =
+        subst (λ (k : ℕ). LeafWalk below nodes at (first + k) levels) this
+        (group-child nd nodes row at first levels (5 - child) (omega arith) a.asks below its)
+
+    pub ahead-next : {row₁ : List ℤ} {k₁ : ℕ} → LeafWalked below nodes row at (first + child) levels row₁ k₁
+        → Ahead nd nodes row₀ at₀ first levels row₁ k₁ (child + 1)
+    ahead-next {row₁} {k₁} walked =
+        let node = subst (λ (k : ℕ). LeafWalked below nodes row at (first + k) levels row₁ k₁) (sym this) walked in
+        record {
+          from = omega arith;
+          asks =
+              subst (LeafGroup nd nodes k₁ first levels) others
+              (group-others nd nodes row at first levels (5 - child) (omega arith) a.asks below its row₁ k₁ node);
+          whole = λ row' r g. a.whole row' r
+              (group-leaves nd nodes row at first levels (5 - child) (omega arith) a.asks below its row₁ k₁ node row' r
+              (subst (λ (k : ℕ). LeafGroupWalked nd nodes row₁ k₁ first levels k row' r) (sym others) g));
+        }
+
+  pub ahead_end : 5 ≤ child → LeafGroupWalked nd nodes row₀ at₀ first levels 4 row at
+  ahead_end z = a.whole row at (group_empty nd nodes row at first levels (5 - child) (omega arith))

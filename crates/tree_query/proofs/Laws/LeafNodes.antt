@@ -1,7 +1,7 @@
 -- The walk over the leaves of a node, by what the code reads of it: a law for each way through the code.
 --     leaf-asks, leaf_gives        a leaf; six-kept: its words
 --     branch-level, branch-asks, branch_gives      a branch: a level is left; its group's walk
-use Rattle.std.specs.Prelude.{◌≡◌, Bool, true, false, not, ℕ, suc, ◌+◌, ◌*◌, ◌-◌, ◌≤◌, ◌<◌, eqb, ℤ, pos}
+use Rattle.std.specs.Prelude.{◌≡◌, Bool, true, false, not, ℕ, suc, ◌+◌, ◌*◌, ◌-◌, ◌≤◌, ◌<◌, eqb, ℤ, pos, set}
 use Rattle.std.proofs.Math.Path.{ap, subst}
 use Rattle.std.proofs.Common.{◌∙◌, arith}
 use mathlib.Core.List.{List}
@@ -17,7 +17,7 @@ use Rattle.memory.specs.declared.node.Node.{Node}
 use Rattle.memory.specs.Nodes.{node_at}
 use Rattle.tree.specs.Trees.{node_total}
 use Rattle.tree.proofs.Laws.Trees.{not-branch, is-branch, mark-no_leaf, shallow-branch}
-use Rattle.tree_query.specs.Rows.{kept, kept_all}
+use Rattle.std.proofs.lemmas.List.Edits.{sets}
 use Rattle.tree_query.specs.Leaves.{words_of, LeafStands, LeavesLeft, LeafWalk, LeafWalked, LeafGroup, LeafGroupWalked}
 use Rattle.tree.proofs.Laws.Children.{join-four}
 
@@ -32,27 +32,27 @@ child-stands {levels = levels} {g = g} {f = f} s i b =
       few = omega (arith, s.few, sum_below_term 5 (λ j. size (f j)) i b);
     }
 
-module _ (nd : NodeData) (nodes : List ℕ) (room : ℕ) (row : List ℤ) (at a levels : ℕ)
+module _ (nd : NodeData) (nodes : List ℕ) (row : List ℤ) (at a levels : ℕ)
     {node : Node} {b : Bool} (words : node ≡ node_at nodes a) (told : b ≡ eqb node.count branch_mark) where
   -- ---- a leaf
 
   module _ (n : not b ≡ true) where
-    pub leaf-asks : LeafWalk nd nodes room row at a levels → node.count ≤ 65536
+    pub leaf-asks : LeafWalk nd nodes at a levels → node.count ≤ 65536
     leaf-asks w = rw words (go w.tree w.stands)
       where
         go : (t : Tree) → LeafStands nodes levels a t → count_at nodes a ≤ 65536
         go (leaf chain) s = omega (arith, s.shaped, s.few, sum_over-one chain)
         go (branch g f) s = absurd (not-branch nodes a words told n s.shaped.0)
 
-    pub leaf_gives : (row' : List ℤ) (r : ℕ) → r ≡ at + 6 → row' ≡ kept_all room row at (words_of nd node.count)
-        → LeafWalked nd nodes room row at a levels row' r
+    pub leaf_gives : (row' : List ℤ) (r : ℕ) → r ≡ at + 6 → row' ≡ sets row at (words_of nd node.count)
+        → LeafWalked nd nodes row at a levels row' r
     unfolding LeafWalked
     leaf_gives row' r p e = go
       where
-        go : (t : Tree) → LeafStands nodes levels a t → LeavesLeft room row at (leaves_of nd t) row' r
+        go : (t : Tree) → LeafStands nodes levels a t → LeavesLeft row at (leaves_of nd t) row' r
         go (leaf chain) s =
             let count : node.count ≡ length chain = ap (λ (x : Node). x.count) words ∙ s.shaped in
-            record { position = p; written = e ∙ ap (λ (c : ℕ). kept_all room row at (words_of nd c)) count }
+            record { position = p; written = e ∙ ap (λ (c : ℕ). sets row at (words_of nd c)) count }
         go (branch g f) s = absurd (not-branch nodes a words told n s.shaped.0)
 
   -- ---- a branch
@@ -61,18 +61,18 @@ module _ (nd : NodeData) (nodes : List ℕ) (room : ℕ) (row : List ℤ) (at a 
     no-leaf : (chain : List Placed) → LeafStands nodes levels a (leaf chain) → ⊥
     no-leaf chain s = mark-no_leaf chain s.few s.shaped (is-branch nodes a words told n)
 
-    pub branch-level : LeafWalk nd nodes room row at a levels → 1 ≤ levels
+    pub branch-level : LeafWalk nd nodes at a levels → 1 ≤ levels
     branch-level w = go w.tree w.stands
       where
         go : (t : Tree) → LeafStands nodes levels a t → 1 ≤ levels
         go (leaf chain) s = absurd (no-leaf chain s)
         go (branch g f) s = (shallow-branch levels g f s.shallow).0
 
-    pub branch-asks : LeafWalk nd nodes room row at a levels → LeafGroup nd nodes room row at node.first (levels - 1) 4
+    pub branch-asks : LeafWalk nd nodes at a levels → LeafGroup nd nodes at node.first (levels - 1) 4
     branch-asks w = rw words (go w.tree w.stands w.small)
       where
         go : (t : Tree) → LeafStands nodes levels a t → at + 6 * node_total t ≤ 1000000
-            → LeafGroup nd nodes room row at (first_at nodes a) (levels - 1) 4
+            → LeafGroup nd nodes at (first_at nodes a) (levels - 1) 4
         go (leaf chain) s c = absurd (no-leaf chain s)
         go (branch g f) s c =
             record {
@@ -82,39 +82,38 @@ module _ (nd : NodeData) (nodes : List ℕ) (room : ℕ) (row : List ℤ) (at a 
               few = omega arith;
               stands = λ i low b. child-stands s i b;
               small = omega (arith, c);
-              fits = w.fits;
               cell_fits = w.cell_fits;
               deep = omega (arith, w.deep, (shallow-branch levels g f s.shallow).0);
             }
 
-    pub branch_gives : (row' : List ℤ) (r : ℕ) → LeafGroupWalked nd nodes room row at node.first (levels - 1) 4 row' r
-        → LeafWalked nd nodes room row at a levels row' r
+    pub branch_gives : (row' : List ℤ) (r : ℕ) → LeafGroupWalked nd nodes row at node.first (levels - 1) 4 row' r
+        → LeafWalked nd nodes row at a levels row' r
     unfolding LeafGroupWalked LeafWalked
     branch_gives row' r w = go
       where
-        go : (t : Tree) → LeafStands nodes levels a t → LeavesLeft room row at (leaves_of nd t) row' r
+        go : (t : Tree) → LeafStands nodes levels a t → LeavesLeft row at (leaves_of nd t) row' r
         go (leaf chain) s = absurd (no-leaf chain s)
         go (branch g f) s =
-            subst (λ (words : List ℤ). LeavesLeft room row at words row' r) (join-four (λ i. leaves_of (child_data nd i) (f i)))
+            subst (λ (words : List ℤ). LeavesLeft row at words row' r) (join-four (λ i. leaves_of (child_data nd i) (f i)))
             ((rw words at w) g f s.shaped.1 (λ i low b. child-stands s i b))
 
 -- ---- six words, one after another
 
-module _ (room : ℕ) (row : List ℤ) (at : ℕ) (n : NodeData) {count : ℕ} {r₁ r₂ r₃ r₄ r₅ r₆ : List ℤ} {cx cy hw hh depth many : ℤ} where
+module _ (row : List ℤ) (at : ℕ) (n : NodeData) {count : ℕ} {r₁ r₂ r₃ r₄ r₅ r₆ : List ℤ} {cx cy hw hh depth many : ℤ} where
   pub six-kept : cx ≡ n.cell.center_x → cy ≡ n.cell.center_y → hw ≡ n.cell.half_width → hh ≡ n.cell.half_height
       → depth ≡ pos n.depth → many ≡ pos count
-      → r₁ ≡ kept room row at cx → r₂ ≡ kept room r₁ (at + 1) cy → r₃ ≡ kept room r₂ (at + 2) hw
-      → r₄ ≡ kept room r₃ (at + 3) hh → r₅ ≡ kept room r₄ (at + 4) depth → r₆ ≡ kept room r₅ (at + 5) many
-      → r₆ ≡ kept_all room row at (words_of n count)
+      → r₁ ≡ set row at cx → r₂ ≡ set r₁ (at + 1) cy → r₃ ≡ set r₂ (at + 2) hw
+      → r₄ ≡ set r₃ (at + 3) hh → r₅ ≡ set r₄ (at + 4) depth → r₆ ≡ set r₅ (at + 5) many
+      → r₆ ≡ sets row at (words_of n count)
   six-kept a b c d e f p₁ p₂ p₃ p₄ p₅ p₆ =
       let k₁ : at + 1 ≡ suc at = omega arith in
       let k₂ : at + 2 ≡ suc (suc at) = omega arith in
       let k₃ : at + 3 ≡ suc (suc (suc at)) = omega arith in
       let k₄ : at + 4 ≡ suc (suc (suc (suc at))) = omega arith in
       let k₅ : at + 5 ≡ suc (suc (suc (suc (suc at)))) = omega arith in
-      let q₁ = p₁ ∙ (λ i. kept room row at (a i)) in
-      let q₂ = p₂ ∙ (λ i. kept room (q₁ i) (k₁ i) (b i)) in
-      let q₃ = p₃ ∙ (λ i. kept room (q₂ i) (k₂ i) (c i)) in
-      let q₄ = p₄ ∙ (λ i. kept room (q₃ i) (k₃ i) (d i)) in
-      let q₅ = p₅ ∙ (λ i. kept room (q₄ i) (k₄ i) (e i)) in
-      p₆ ∙ (λ i. kept room (q₅ i) (k₅ i) (f i))
+      let q₁ = p₁ ∙ (λ i. set row at (a i)) in
+      let q₂ = p₂ ∙ (λ i. set (q₁ i) (k₁ i) (b i)) in
+      let q₃ = p₃ ∙ (λ i. set (q₂ i) (k₂ i) (c i)) in
+      let q₄ = p₄ ∙ (λ i. set (q₃ i) (k₃ i) (d i)) in
+      let q₅ = p₅ ∙ (λ i. set (q₄ i) (k₄ i) (e i)) in
+      p₆ ∙ (λ i. set (q₅ i) (k₅ i) (f i))

@@ -25,10 +25,10 @@ use Rattle.model.proofs.Laws.Layout.{holds-settings}
 use Rattle.tree.specs.Operations.{HasTree}
 use Rattle.tree.specs.Trees.{TreeStands}
 use Rattle.tree.proofs.Laws.Trees.{root_stands, root_total}
-use Rattle.tree_query.specs.Rows.{kept_all}
+use Rattle.std.proofs.lemmas.List.Edits.{sets}
 use Rattle.tree_query.specs.Leaves.{Shaped, LeafStands, LeafWalk, LeafWalked}
 use Rattle.tree_query.specs.Answers.{LeavesMet, LeavesListed}
-use Rattle.tree_query.proofs.Laws.Rows.{kept_whole}
+use Rattle.tree.proofs.Laws.Rows.{sets_whole}
 use Rattle.tree.proofs.Laws.Operations.{tree-settings}
 use Rattle.tree_query.proofs.Laws.LeafGroups.{words_total}
 
@@ -44,10 +44,9 @@ module _ (s : State) (nodes : List ℕ) where
   pub leaf-settings : HasTree s nodes → in_range s.settings ≡ true
   leaf-settings h = tree-settings h.tree
 
-  pub root-leaves : {room : ℕ} {row : List ℤ} {n : NodeData} {levels : ℕ} → HasTree s nodes → room ≤ length row
-      → n ≡ root_data s.settings → levels ≡ D s.settings → LeafWalk n nodes room row 0 0 levels
+  pub root-leaves : {n : NodeData} {levels : ℕ} → HasTree s nodes → n ≡ root_data s.settings → levels ≡ D s.settings → LeafWalk n nodes 0 0 levels
   unfolding root_data
-  root-leaves {n = n} {levels = levels} h fits e deep =
+  root-leaves {n = n} {levels = levels} h e deep =
       let t = h.tree in
       let x = t.shape in
       let within = deepest-within s.settings (leaf-settings h) in
@@ -57,22 +56,21 @@ module _ (s : State) (nodes : List ℕ) where
         tree = x.tree;
         stands = leaf-stands nodes h.dots h.rects levels 0 x.tree (rw deep stands);
         small = omega (arith, root_total s nodes h.dots h.rects t.marks x t.holds);
-        fits = fits;
         cell_fits = rw e (root-range s.settings (accepted s.settings (leaf-settings h)).root);
         deep = omega (arith, within, depth);
       }
 
-  pub leaves-met : (room : ℕ) (row : List ℤ) {n : NodeData} {levels : ℕ} (row' : List ℤ) (r : ℕ)
+  pub leaves-met : (row : List ℤ) {n : NodeData} {levels : ℕ} (row' : List ℤ) (r : ℕ)
       → n ≡ root_data s.settings → levels ≡ D s.settings
-      → LeafWalked n nodes room row 0 0 levels row' r → LeavesMet s nodes room row row' r
+      → LeafWalked n nodes row 0 0 levels row' r → LeavesMet s nodes row row' r
   unfolding LeafWalked LeavesMet leaves
-  leaves-met room row {n} {levels} row' r e deep w = λ dots rects marks x h.
+  leaves-met row {n} {levels} row' r e deep w = λ dots rects marks x h.
       let same : n ≡ root x = e ∙ ap root_data (holds-settings (world s nodes dots rects marks) x h) in
       let stands = root_stands s nodes dots rects marks x h in
       let l = w x.tree (leaf-stands nodes dots rects levels 0 x.tree (rw deep stands)) in
       let words = ap (λ (m : NodeData). leaves_of m x.tree) same in
       let many : 0 + length (leaves_of n x.tree) ≡ length (leaves_of (root x) x.tree) = omega (arith, ap length words) in
-      (l.position ∙ many, l.written ∙ ap (kept_all room row 0) words)
+      (l.position ∙ many, l.written ∙ ap (sets row 0) words)
 
   -- ---- how many there are
 
@@ -80,9 +78,9 @@ module _ (s : State) (nodes : List ℕ) where
   unfolding leaves leaf_number
   six x = leaves-length (root x) x.tree
 
-  pub leaves-fit : (room : ℕ) (row row' : List ℤ) (r : ℕ) → HasTree s nodes → LeavesMet s nodes room row row' r → r ≤ 1000000
+  pub leaves-fit : (row row' : List ℤ) (r : ℕ) → HasTree s nodes → LeavesMet s nodes row row' r → r ≤ 1000000
   unfolding LeavesMet leaves
-  leaves-fit room row row' r h m =
+  leaves-fit row row' r h m =
       let t = h.tree in
       let x = t.shape in
       omega (
@@ -94,7 +92,7 @@ module _ (s : State) (nodes : List ℕ) where
 
   -- ---- the answer
 
-  module _ (other other' : List ℤ) (r : ℕ) (count : LeavesMet s nodes 0 other other' r) (row : List ℤ) where
+  module _ (other other' : List ℤ) (r : ℕ) (count : LeavesMet s nodes other other' r) (row : List ℤ) where
     pub leaves-many : length row < r → LeavesListed s nodes row row (too_many (r / 6))
     unfolding LeavesMet LeavesListed leaves_rule cleared
     leaves-many short = λ dots rects marks x h.
@@ -103,14 +101,14 @@ module _ (s : State) (nodes : List ℕ) where
         rw (lt-ltb (length row) (6 * leaf_number x) (omega (arith, many)))
         (ap (λ (n : ℕ). exit (world s nodes dots rects (replicate (length marks) 0)) row (too_many n)) number)
 
-    pub leaves-listed : (row' : List ℤ) (k : ℕ) → r ≤ length row → LeavesMet s nodes (length row) row row' k
+    pub leaves-listed : (row' : List ℤ) (k : ℕ) → r ≤ length row → LeavesMet s nodes row row' k
         → LeavesListed s nodes row row' (answered (r / 6))
     unfolding LeavesMet LeavesListed leaves_rule cleared
     leaves-listed row' k fits m = λ dots rects marks x h.
         let many : r ≡ 6 * leaf_number x = (count dots rects marks x h).0 ∙ six x in
         let number : r / 6 ≡ leaf_number x = omega (arith, many) in
         let long : length (leaves x) ≤ length row = omega (arith, six x, many) in
-        let written = (m dots rects marks x h).1 ∙ kept_whole (length row) row (leaves x) long long in
+        let written = (m dots rects marks x h).1 ∙ sets_whole row (leaves x) long in
         let words = h.words in
         rw (le-ltb (length row) (6 * leaf_number x) (omega (arith, many)))
         (λ i. exit (words i) (written i) (answered (number i)))

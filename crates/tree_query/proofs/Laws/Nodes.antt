@@ -34,35 +34,34 @@ use Rattle.tree.proofs.Laws.Children.{join-five}
 abbrev pub opening : Found → Found
 opening found = record { hits = found.hits; opened = found.opened + 1 }
 
-module _ (nodes dots : List ℕ) (rects : List ℤ) (room : ℕ) (row : List ℕ) (found : Found) (a levels : ℕ) (q : Window) (cell : CenteredAABB)
+module _ (nodes dots : List ℕ) (rects : List ℤ) (row : List ℕ) (found : Found) (a levels : ℕ) (q : Window) (cell : CenteredAABB)
     {node : Node} {b : Bool} (words : node ≡ node_at nodes a) (told : b ≡ eqb node.count branch_mark) where
   -- ---- a leaf
 
   module _ (n : not b ≡ true) where
-    pub leaf-asks : NodeWalk cell nodes dots rects room row found a levels
-        → ChainWalk dots rects room row (opening found) node.first node.count
+    pub leaf-asks : NodeWalk cell nodes dots rects found a levels
+        → ChainWalk dots rects (opening found) node.first node.count
     leaf-asks w = rw words (go w.tree w.stands w.grows)
       where
         go : (t : Tree) → TreeStands nodes dots rects levels a t → CanGrow found (size t) (node_total t)
-            → ChainWalk dots rects room row (opening found) (first_at nodes a) (count_at nodes a)
+            → ChainWalk dots rects (opening found) (first_at nodes a) (count_at nodes a)
         go (leaf chain) s c =
             record {
               chain = chain;
               stands = chain_rows nodes [] dots rects (first_at nodes a) chain s.represents.1;
               long = sym s.represents.0;
               dots_in = s.dots_in;
-              fits = w.fits;
               grows = record { hits = omega (arith, c.hits, s.represents.0, sum_over-one chain); opened = omega (arith, c.opened) };
             }
         go (branch g f) s c = absurd (not-branch nodes a words told n s.represents.0)
 
-    pub leaf_gives : (row' : List ℕ) (r : Found) → ChainWalked q dots rects room row (opening found) node.first node.count row' r
-        → NodeWalked q cell nodes dots rects room row found a levels row' r
+    pub leaf_gives : (row' : List ℕ) (r : Found) → ChainWalked q dots rects row (opening found) node.first node.count row' r
+        → NodeWalked q cell nodes dots rects row found a levels row' r
     unfolding ChainWalked NodeWalked after row_after
     leaf_gives row' r w = go
       where
         go : (t : Tree) (d : NodeData) → TreeStands nodes dots rects levels a t → d.cell ≡ cell
-            → Left room row found (hits q d t) (opened q.rect d t) row' r
+            → Left row found (hits q d t) (opened q.rect d t) row' r
         go (leaf chain) d s e =
             let l = (rw words at w) chain (chain_rows nodes [] dots rects (first_at nodes a) chain s.represents.1) (sym s.represents.0) in
             let more : found.opened + 1 + 0 ≡ found.opened + 1 = omega arith in
@@ -78,19 +77,19 @@ module _ (nodes dots : List ℕ) (rects : List ℤ) (room : ℕ) (row : List ℕ
     no-leaf : (chain : List Placed) → TreeStands nodes dots rects levels a (leaf chain) → ⊥
     no-leaf chain s = mark-no_leaf chain s.few s.represents.0 (is-branch nodes a words told n)
 
-    pub branch-level : NodeWalk cell nodes dots rects room row found a levels → 1 ≤ levels
+    pub branch-level : NodeWalk cell nodes dots rects found a levels → 1 ≤ levels
     branch-level w = go w.tree w.stands
       where
         go : (t : Tree) → TreeStands nodes dots rects levels a t → 1 ≤ levels
         go (leaf chain) s = absurd (no-leaf chain s)
         go (branch g f) s = (shallow-branch levels g f s.shallow).0
 
-    pub branch-asks : (quadrants : Quadrants) → quadrants.code ≡ cell_code cell q.rect → NodeWalk cell nodes dots rects room row found a levels
-        → GroupWalk q cell quadrants nodes dots rects room row (opening found) node.first (levels - 1) 5
+    pub branch-asks : (quadrants : Quadrants) → quadrants.code ≡ cell_code cell q.rect → NodeWalk cell nodes dots rects found a levels
+        → GroupWalk q cell quadrants nodes dots rects (opening found) node.first (levels - 1) 5
     branch-asks quadrants e w = rw words (go w.tree w.stands w.grows)
       where
         go : (t : Tree) → TreeStands nodes dots rects levels a t → CanGrow found (size t) (node_total t)
-            → GroupWalk q cell quadrants nodes dots rects room row (opening found) (first_at nodes a) (levels - 1) 5
+            → GroupWalk q cell quadrants nodes dots rects (opening found) (first_at nodes a) (levels - 1) 5
         go (leaf chain) s c = absurd (no-leaf chain s)
         go (branch g f) s c =
             record {
@@ -100,19 +99,18 @@ module _ (nodes dots : List ℕ) (rects : List ℤ) (room : ℕ) (row : List ℕ
               small = omega arith;
               stands = λ i low b. child-stands s i b;
               grows = record { hits = omega (arith, c.hits); opened = omega (arith, c.opened) };
-              fits = w.fits;
               cell_fits = w.cell_fits;
               code = e;
             }
 
     pub branch_gives : (row' : List ℕ) (r : Found)
-        → GroupWalked q cell nodes dots rects room row (opening found) node.first (levels - 1) 5 row' r
-        → NodeWalked q cell nodes dots rects room row found a levels row' r
+        → GroupWalked q cell nodes dots rects row (opening found) node.first (levels - 1) 5 row' r
+        → NodeWalked q cell nodes dots rects row found a levels row' r
     unfolding GroupWalked NodeWalked after row_after
     branch_gives row' r w = go
       where
         go : (t : Tree) (d : NodeData) → TreeStands nodes dots rects levels a t → d.cell ≡ cell
-            → Left room row found (hits q d t) (opened q.rect d t) row' r
+            → Left row found (hits q d t) (opened q.rect d t) row' r
         go (leaf chain) d s e = absurd (no-leaf chain s)
         go (branch g f) d s e =
             let l = (rw words at w) g f d s.represents.1 (λ i low b. child-stands s i b) e in
@@ -121,5 +119,5 @@ module _ (nodes dots : List ℕ) (rects : List ℤ) (room : ℕ) (row : List ℕ
             let many : found.opened + 1 + sum_last 5 O ≡ found.opened + (1 + sum_below 5 O) = omega arith in
             record {
               answer = l.answer ∙ (λ i. record { hits = found.hits + length (join-five H i); opened = many i });
-              written = l.written ∙ ap (λ ds. row_after room row found ds) (join-five H);
+              written = l.written ∙ ap (λ ds. row_after row found ds) (join-five H);
             }

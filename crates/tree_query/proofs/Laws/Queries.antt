@@ -1,7 +1,7 @@
 -- Queries on a memory that is a tree: a law for each way through the code.
 --     tree-root    the root of a tree is in range
 --     root-walk, root-met  the walk from the root
---     met-counted          a walk with no room counts
+--     met-counted          a walk counts
 --     room-live, room-counted      there is room for all that is listed
 --     queried_many, queried_listed     refusal 8, and the ids listed
 use Rattle.std.specs.Prelude.{◌≡◌, List, true, ℕ, ◌+◌, ◌≤◌, ◌<◌, ℤ, replicate}
@@ -30,7 +30,7 @@ use Rattle.tree.proofs.Laws.Trees.{root_stands, root_total}
 use Rattle.model.specs.declared.answers.Found.{Found}
 use Rattle.tree_query.specs.Walks.{ids, after, row_after, NodeWalk, NodeWalked}
 use Rattle.tree_query.specs.Answers.{Met, Counted, Queried}
-use Rattle.tree_query.proofs.Laws.Rows.{kept_whole}
+use Rattle.tree.proofs.Laws.Rows.{sets_whole}
 
 module _ (s : State) (nodes dots : List ℕ) (rects : List ℤ) where
   pub tree-root : IsTree s nodes dots rects → root_fits s.settings ≡ true
@@ -42,23 +42,22 @@ module _ (s : State) (nodes dots : List ℕ) (rects : List ℤ) where
   abbrev start : Found
   start = record { hits = 0; opened = 0 }
 
-  pub root-walk : {room : ℕ} {row : List ℕ} {cell : CenteredAABB} {levels : ℕ} → IsTree s nodes dots rects → room ≤ length row
-      → cell ≡ root_cell s.settings → levels ≡ D s.settings → NodeWalk cell nodes dots rects room row start 0 levels
-  root-walk t fits e deep =
+  pub root-walk : {cell : CenteredAABB} {levels : ℕ} → IsTree s nodes dots rects → cell ≡ root_cell s.settings → levels ≡ D s.settings
+      → NodeWalk cell nodes dots rects start 0 levels
+  root-walk t e deep =
       let stands = root_stands s nodes dots rects t.marks t.shape t.holds in
       record {
         tree = t.shape.tree;
         stands = rw deep stands;
         grows = record { hits = omega (arith, stands.few); opened = omega (arith, root_total s nodes dots rects t.marks t.shape t.holds) };
-        fits = fits;
         cell_fits = rw e (root-range s.settings (tree-root t));
       }
 
-  pub root-met : (q : Window) (room : ℕ) (row : List ℕ) {cell : CenteredAABB} {levels : ℕ} (row' : List ℕ) (r : Found)
-      → cell ≡ root_cell s.settings → levels ≡ D s.settings → NodeWalked q cell nodes dots rects room row start 0 levels row' r
-      → Met s q nodes dots rects room row row' r
+  pub root-met : (q : Window) (row : List ℕ) {cell : CenteredAABB} {levels : ℕ} (row' : List ℕ) (r : Found)
+      → cell ≡ root_cell s.settings → levels ≡ D s.settings → NodeWalked q cell nodes dots rects row start 0 levels row' r
+      → Met s q nodes dots rects row row' r
   unfolding NodeWalked Met after row_after listed opens_for root_data
-  root-met q room row row' r e deep walked = λ marks x h.
+  root-met q row row' r e deep walked = λ marks x h.
       let n = root x in
       let same = holds-settings (world s nodes dots rects marks) x h in
       let stands = root_stands s nodes dots rects marks x h in
@@ -68,7 +67,7 @@ module _ (s : State) (nodes dots : List ℕ) (rects : List ℤ) where
       let nodes-opened : 0 + opened q.rect n x.tree ≡ opened q.rect n x.tree = omega arith in
       (l.answer ∙ (λ i. record { hits = many i; opened = nodes-opened i }), l.written)
 
-  pub met-counted : (q : Window) (row row' : List ℕ) (r : Found) → Met s q nodes dots rects 0 row row' r → Counted s q nodes dots rects r
+  pub met-counted : (q : Window) (row row' : List ℕ) (r : Found) → Met s q nodes dots rects row row' r → Counted s q nodes dots rects r
   unfolding Met Counted
   met-counted q row row' r m = λ marks x h. (m marks x h).0
 
@@ -101,11 +100,11 @@ module _ (s : State) (nodes dots : List ℕ) (rects : List ℤ) where
   room-counted q room r c l marks x h = omega (arith, counted-hits q r c marks x h)
 
   -- the row begins with the ids and keeps its tail
-  pub queried_listed : (q : Window) (row row' : List ℕ) (r : Found) → Met s q nodes dots rects (length row) row row' r
+  pub queried_listed : (q : Window) (row row' : List ℕ) (r : Found) → Met s q nodes dots rects row row' r
       → Fits q (length row) → Queried s q nodes dots rects row row' (answered r)
   unfolding Met Queried query_rule cleared
   queried_listed q row row' r m fits = λ marks x h.
       let found = m marks x h in
-      let written = found.1 ∙ kept_whole (length row) row (listed q x) (fits marks x h) (fits marks x h) in
+      let written = found.1 ∙ sets_whole row (listed q x) (fits marks x h) in
       let words = h.words in
       rw (le-ltb (length row) (length (listed q x)) (fits marks x h)) (λ i. exit (words i) (written i) (answered (found.0 i)))

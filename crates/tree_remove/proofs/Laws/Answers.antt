@@ -3,7 +3,7 @@
 --     Looked       the leaf, its words, the dot
 --     look-takes   what the stores ask
 --     look-no, look-past, look-yes the answers, and refusal 16
-use Rattle.std.specs.Prelude.{◌≡◌, List, [], ◌∷◌, Bool, true, not, ℕ, ◌+◌, ◌-◌, ◌≤◌, ℤ, length, replicate}
+use Rattle.std.specs.Prelude.{◌≡◌, List, [], ◌∷◌, Bool, true, not, ℕ, ◌+◌, ◌-◌, ◌≤◌, ◌<◌, ℤ, length, replicate, Option, Some, None, IfSome}
 use Rattle.std.proofs.Math.Path.{refl, ap}
 use Rattle.std.proofs.Common.{sym, ◌∙◌, subst, arith}
 use Rattle.std.proofs.Math.Bool.{false}
@@ -16,8 +16,9 @@ use Rattle.model.specs.Dots.{zero_dot}
 use Rattle.model.specs.Trees.{Placed}
 use Rattle.model.specs.Remove.{first_has}
 use Rattle.model.specs.Shapes.{Shape, root, found_by, removed}
-use Rattle.model.specs.Layout.{dots_for, World, Holds, none, world}
+use Rattle.model.specs.Layout.{dots_for, World, Holds, world}
 use Rattle.model.specs.Memory.{next_at, first_at, count_at}
+use Rattle.model.specs.declared.refusal.Refusal.TheVariants.{TooManyChanges}
 use Rattle.model.specs.Calls.{refused, answered, accept, exit, carried_out, counted, can_count, remove_rule}
 use Rattle.model.proofs.Laws.Calls.{counted-fits, counted_past}
 use Rattle.model.proofs.Laws.Layout.{holds-changes}
@@ -33,9 +34,9 @@ use Rattle.tree.proofs.Laws.Leaves.{here-stands, leads-leaf, here-inside}
 use Rattle.tree.proofs.Laws.Operations.{same-marks, refused-exit, shaped-exit}
 use Rattle.tree_remove.specs.declared.Hit.{Hit}
 use Rattle.tree_remove.specs.Search.{Linked, hit_in, Searchable, unlinked_node, unlinked_dots}
-use Rattle.tree_remove.proofs.Laws.Found.{Found, found-split, hit_absent}
+use Rattle.tree_remove.proofs.Laws.Found.{Found, found-split, hit_absent, hit_there, some_none}
 use Rattle.tree_remove.proofs.Laws.Stores.{nodes_without, dots_without, rects_without, state_without}
-use Rattle.tree_remove.proofs.Laws.Shapes.{takeable, found_some, removed-holds}
+use Rattle.tree_remove.proofs.Laws.Shapes.{takeable, removed-holds}
 
 -- ---- the chain of the leaf
 
@@ -59,19 +60,20 @@ module _ {w : World} {x : Shape} (h : Holds w x) (r : AABB) where
 -- ---- the code's values
 
 -- what the code has looked up: the leaf, its words, the dot
-pub record Looked (s : State) (nodes dots : List ℕ) (id : ℕ) (r : AABB) (l : Leaf) (node : Node) (hit : Hit) : Type 0 where
+pub record Looked (s : State) (nodes dots : List ℕ) (id : ℕ) (r : AABB) (l : Leaf) (node : Node) (told : Option Hit) : Type 0 where
   pub leads : LeadsTo s.settings nodes r l
   pub words : node ≡ node_at nodes l.node
-  pub finds : (chain : List Placed) → Linked dots node.first node.count chain → hit ≡ hit_in id none chain
+  pub finds : (chain : List Placed) → Linked dots node.first node.count chain → told ≡ hit_in id None chain
 
 -- what the stores ask
 pub record Takes (s : State) (nodes dots : List ℕ) (rects : List ℤ) (l : Leaf) (node : Node) (hit : Hit) : Type 0 where
-  pub unlinks : HasNode nodes l.node × (1 ≤ node.count) × HasPlace dots hit.place × (¬ (hit.previous ≡ none) → HasPlace dots hit.previous)
+  pub unlinks : HasNode nodes l.node × (1 ≤ node.count) × HasPlace dots hit.place × IfSome hit.previous (HasPlace dots)
+  pub small : hit.place < 4294967296
   pub rect : HasRect rects hit.place
   pub live : 1 ≤ s.live
 
 module _ {s : State} {nodes dots : List ℕ} {rects : List ℤ} {marks : List ℕ} {x : Shape} (h : Holds (world s nodes dots rects marks) x)
-    {id : ℕ} {r : AABB} {l : Leaf} {node : Node} {hit : Hit} (look : Looked s nodes dots id r l node hit) where
+    {id : ℕ} {r : AABB} {l : Leaf} {node : Node} {told : Option Hit} (look : Looked s nodes dots id r l node told) where
   abbrev chain₀ : List Placed
   chain₀ = chain_for r (root x) x.tree
 
@@ -81,37 +83,33 @@ module _ {s : State} {nodes dots : List ℕ} {rects : List ℤ} {marks : List �
   at_words : node ≡ node_at nodes (leaf_for r (root x) 0 x.tree).node
   at_words = look.words ∙ ap (node_at nodes) at_leaf
 
-  at-hit : hit ≡ hit_in id none chain₀
+  at-hit : told ≡ hit_in id None chain₀
   at-hit = look.finds chain₀ (subst (λ (v : Node). Linked dots v.first v.count chain₀) (sym at_words) (leaf-linked h r))
 
-  -- it is found where the place is one
-  has-found : ¬ (hit.place ≡ none) → (first_has id chain₀ ≡ true) × Found id chain₀ hit
-  has-found ne =
+  has-found : {hit : Hit} → told ≡ Some hit → (first_has id chain₀ ≡ true) × Found id chain₀ hit
+  has-found e =
       by_bool (first_has id chain₀)
-      (λ e. (e, subst (Found id chain₀) (sym at-hit) (found-split id chain₀ e)))
-      (λ e. absurd (ne (ap (λ (y : Hit). y.place) at-hit ∙ hit_absent id none chain₀ e)))
+      (λ y. (y, found-split id chain₀ y (sym at-hit ∙ e)))
+      (λ n. absurd (some_none (sym e ∙ at-hit ∙ hit_absent id None chain₀ n)))
 
-  has-none : hit.place ≡ none → first_has id chain₀ ≡ false
-  has-none e =
-      by_bool (first_has id chain₀)
-      (λ y. absurd (found_some h id r hit (subst (Found id chain₀) (sym at-hit) (found-split id chain₀ y)) e))
-      (λ n. n)
+  has-none : told ≡ None → first_has id chain₀ ≡ false
+  has-none e = by_bool (first_has id chain₀) (λ y. absurd (hit_there id None chain₀ y (sym at-hit ∙ e))) (λ n. n)
 
-  pub look-takes : ¬ (hit.place ≡ none) → Takes s nodes dots rects l node hit
-  look-takes ne =
+  pub look-takes : {hit : Hit} → told ≡ Some hit → Takes s nodes dots rects l node hit
+  look-takes {hit} ne =
       let t = takeable h id r hit (has-found ne).1 in
       let count : 1 ≤ node.count = subst (λ (v : Node). 1 ≤ v.count) (sym at_words) t.count in
-      record { unlinks = (subst (HasNode nodes) (sym at_leaf) (here-inside h r), count, t.place, t.previous); rect = t.rect; live = t.live }
+      record { unlinks = (subst (HasNode nodes) (sym at_leaf) (here-inside h r), count, t.place, t.previous); small = t.small; rect = t.rect; live = t.live }
 
   -- the answers
-  pub look-no : hit.place ≡ none
+  pub look-no : told ≡ None
       → exit (world s nodes dots rects (replicate (length marks) 0)) [] (answered false) ≡ carried_out (world s nodes dots rects marks) [] (remove_rule id r x)
   unfolding remove_rule found_by
   look-no e =
       shaped-exit s nodes dots rects marks (remove_rule id r x) s nodes dots rects x false (same-marks s nodes dots rects marks x h)
       (rw (says-path r id (root x) x.tree ∙ has-none e) refl)
 
-  says-yes : ¬ (hit.place ≡ none) → remove_rule id r x ≡ counted (accept (removed id r x) [] true)
+  says-yes : {hit : Hit} → told ≡ Some hit → remove_rule id r x ≡ counted (accept (removed id r x) [] true)
   unfolding remove_rule found_by
   says-yes ne = rw (says-path r id (root x) x.tree ∙ (has-found ne).0) refl
 
@@ -119,18 +117,19 @@ module _ {s : State} {nodes dots : List ℕ} {rects : List ℤ} {marks : List �
   unfolding removed
   more = ap (λ (n : ℕ). n + 1) (sym (holds-changes (world s nodes dots rects marks) x h))
 
-  pub look-past : ¬ (hit.place ≡ none) → {fits : Bool} → fits ≡ can_count s 1 → not fits ≡ true
+  pub look-past : {hit : Hit} → told ≡ Some hit → {fits : Bool} → fits ≡ can_count s 1 → not fits ≡ true
       → exit (world s nodes dots rects (replicate (length marks) 0)) [] (refused 16) ≡ carried_out (world s nodes dots rects marks) [] (remove_rule id r x)
   look-past ne {fits} count n =
-      refused-exit s nodes dots rects marks (remove_rule id r x) 16
+      refused-exit s nodes dots rects marks (remove_rule id r x) TooManyChanges
       (says-yes ne ∙ counted_past (removed id r x) [] true s 1 count more (not-true fits n))
 
-  pub look-yes : ¬ (hit.place ≡ none) → can_count s 1 ≡ true → {s' : State} {nodes' dots₁ dots' : List ℕ} {rects' : List ℤ}
+  pub look-yes : {hit : Hit} → told ≡ Some hit → can_count s 1 ≡ true → {s' : State} {nodes' dots₁ dots' : List ℕ} {rects' : List ℤ}
       → nodes' ≡ set_node_at nodes l.node (unlinked_node dots node hit) → dots₁ ≡ unlinked_dots dots hit
       → dots' ≡ set_next_at (set_dot_at dots₁ hit.place zero_dot) hit.place s.free_place → rects' ≡ set_rect_at rects hit.place zero_dot.rect
       → s' ≡ state_without s hit
-      → exit (world s' nodes' dots' rects' (replicate (length marks) 0)) [] (answered true) ≡ carried_out (world s nodes dots rects marks) [] (remove_rule id r x)
-  look-yes ne fits {s'} {nodes'} {dots₁} {dots'} {rects'} en e₁ ed er es =
+      → exit (world s' nodes' dots' rects' (replicate (length marks) 0)) [] (answered true)
+      ≡ carried_out (world s nodes dots rects marks) [] (remove_rule id r x)
+  look-yes {hit} ne fits {s'} {nodes'} {dots₁} {dots'} {rects'} en e₁ ed er es =
       let f = has-found ne in
       let b = (leaf_for r (root x) 0 x.tree).node in
       let nodes_same : nodes' ≡ nodes_without nodes dots b hit = en ∙ (λ i. set_node_at nodes (at_leaf i) (unlinked_node dots (at_words i) hit)) in

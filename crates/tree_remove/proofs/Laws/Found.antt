@@ -1,21 +1,26 @@
 -- Where a dot with an id stands in its chain.
 --     Found, found-split   at the head, or behind another
---     hit_absent   there is none
-use Rattle.std.specs.Prelude.{◌≡◌, refl, List, ◌∷◌, ◌++◌, [], true, false, ℕ}
-use Rattle.std.proofs.Common.{ap, sym}
+--     hit_absent, hit_there        there is none, or one
+use Rattle.std.specs.Prelude.{◌≡◌, refl, List, ◌∷◌, ◌++◌, [], Option, Some, None, true, false, ℕ}
+use Rattle.std.proofs.Common.{ap, sym, ◌∙◌}
 use Rattle.arithmetic.proofs.Laws.Tests.{by_bool, true_false}
 use Rattle.model.specs.Trees.{Placed}
 use Rattle.model.specs.Remove.{first_out, first_place, first_has}
-use Rattle.model.specs.Layout.{none}
 use Rattle.model.specs.Dots.{matches}
 use Rattle.tree_remove.specs.declared.Hit.{Hit}
 use Rattle.tree_remove.specs.Search.{hit_in}
 
 pub data Found (id : ℕ) (chain : List Placed) (hit : Hit) : Type 0 where
   at_head : (d : Placed) (ys : List Placed) → chain ≡ d ∷ ys → first_out id chain ≡ ys → first_place id chain ≡ d.place
-      → hit ≡ record { place = d.place; previous = none } → Found id chain hit
+      → hit ≡ record { place = d.place; previous = None } → Found id chain hit
   behind : (xs : List Placed) (q d : Placed) (ys : List Placed) → chain ≡ xs ++ q ∷ d ∷ ys → first_out id chain ≡ xs ++ q ∷ ys → first_place id chain ≡ d.place
-      → hit ≡ record { place = d.place; previous = q.place } → Found id chain hit
+      → hit ≡ record { place = d.place; previous = Some q.place } → Found id chain hit
+
+some_same : {x y : Hit} → Some x ≡ Some y → x ≡ y
+some_same e = cc
+
+pub some_none : {x : Hit} → Some x ≡ None → ⊥
+some_none e = cc
 
 -- behind q, which is not the dot
 module _ (id : ℕ) where
@@ -27,7 +32,7 @@ module _ (id : ℕ) where
     pub chain : q ∷ ds ≡ xs ++ before ∷ dot ∷ ys
     pub out : q ∷ first_out id ds ≡ xs ++ before ∷ ys
     pub place : first_place id ds ≡ dot.place
-    pub hit : hit_in id q.place ds ≡ record { place = dot.place; previous = before.place }
+    pub hit : hit_in id (Some q.place) ds ≡ Some (record { place = dot.place; previous = Some before.place })
 
   behind-split : (q : Placed) (ds : List Placed) → first_has id ds ≡ true → Behind q ds
   behind-split q [] e = true_false (sym e)
@@ -47,16 +52,21 @@ module _ (id : ℕ) where
         hit = rw m b.hit;
       })
 
-  pub found-split : (ds : List Placed) → first_has id ds ≡ true → Found id ds (hit_in id none ds)
-  found-split [] e = true_false (sym e)
-  found-split (d ∷ ds) e =
+  pub found-split : (ds : List Placed) → first_has id ds ≡ true → {hit : Hit} → hit_in id None ds ≡ Some hit → Found id ds hit
+  found-split [] e t = true_false (sym e)
+  found-split (d ∷ ds) e t =
       by_bool (matches id d.dot)
-      (λ m. at_head d ds refl (rw m refl) (rw m refl) (rw m refl))
+      (λ m. at_head d ds refl (rw m refl) (rw m refl) (some_same (sym (rw m at t))))
       (λ m.
       let b = behind-split d ds (rw m at e) in
-      behind b.xs b.before b.dot b.ys b.chain (rw m b.out) (rw m b.place) (rw m b.hit))
+      behind b.xs b.before b.dot b.ys b.chain (rw m b.out) (rw m b.place) (some_same (sym (rw m at t) ∙ b.hit)))
 
-  pub hit_absent : (previous : ℕ) (ds : List Placed) → first_has id ds ≡ false → (hit_in id previous ds).place ≡ none
+  pub hit_absent : (previous : Option ℕ) (ds : List Placed) → first_has id ds ≡ false → hit_in id previous ds ≡ None
   hit_absent previous [] e = refl
   hit_absent previous (d ∷ ds) e =
-      by_bool (matches id d.dot) (λ m. true_false (rw m at e)) (λ m. rw m (hit_absent d.place ds (rw m at e)))
+      by_bool (matches id d.dot) (λ m. true_false (rw m at e)) (λ m. rw m (hit_absent (Some d.place) ds (rw m at e)))
+
+  pub hit_there : (previous : Option ℕ) (ds : List Placed) → first_has id ds ≡ true → hit_in id previous ds ≡ None → ⊥
+  hit_there previous [] e t = true_false (sym e)
+  hit_there previous (d ∷ ds) e t =
+      by_bool (matches id d.dot) (λ m. some_none (rw m at t)) (λ m. hit_there (Some d.place) ds (rw m at e) (rw m at t))

@@ -2,11 +2,10 @@
 --     Takeable, takeable   what the stores ask of the place that was found
 --     without-stored       the memory without the dot is stored as the model's remove says
 --     removed-holds        the words hold the removed shape
-use Rattle.std.specs.Prelude.{◌≡◌, refl, List, ◌∷◌, ◌++◌, true, ℕ, ◌+◌, ◌≤◌, ◌<◌, ℤ, length, replicate, eqb}
+use Rattle.std.specs.Prelude.{◌≡◌, refl, List, ◌∷◌, ◌++◌, true, ℕ, ◌+◌, ◌≤◌, ◌<◌, ℤ, length, replicate, Option, Some, None, IfSome}
 use Rattle.std.proofs.Math.Path.{ap}
 use Rattle.std.proofs.Common.{sym, ◌∙◌, subst, arith, length-append}
 use Rattle.std.proofs.Math.ListN.{length-replicate}
-use Rattle.arithmetic.proofs.Laws.Tests.{by_bool}
 use Rattle.geometry.specs.declared.aabb.AABB.{AABB}
 use Rattle.model.specs.declared.State.{State}
 use Rattle.model.specs.Sums.{sum_over}
@@ -15,7 +14,7 @@ use Rattle.model.specs.Dots.{zero_dot}
 use Rattle.model.specs.Trees.{Placed, Tree, leaf, at_place, size}
 use Rattle.model.specs.Remove.{first_has, first_out, first_place, remove_at, remove_place}
 use Rattle.model.specs.Shapes.{Shape, root, found_by, removed}
-use Rattle.model.specs.Layout.{World, world, none, Holds}
+use Rattle.model.specs.Layout.{World, world, Holds}
 use Rattle.model.specs.Memory.{Mem, count_at, next_at, memory}
 use Rattle.model.proofs.Laws.Shapes.{removed-valid}
 use Rattle.model.proofs.Laws.Remove.{found-gone}
@@ -32,7 +31,7 @@ use Rattle.tree.proofs.Laws.Stored.{holds-stored, stored-holds}
 use Rattle.tree.proofs.Laws.Routes.{chain_for, path_to, path-sub, path-node, says-path, place-path, remove-path}
 use Rattle.tree.proofs.Laws.Leaves.{way-children, here-sum, here_place, here-count, here-inside}
 use Rattle.tree_remove.specs.declared.Hit.{Hit}
-use Rattle.tree_remove.specs.Search.{unlinked_node, unlinked_dots}
+use Rattle.tree_remove.specs.Search.{unlinked_node, unlinked_dots, relinked}
 use Rattle.tree_remove.proofs.Laws.Found.{Found, at_head, behind}
 use Rattle.tree_remove.proofs.Laws.Stores.{nodes_without, dots_without, rects_without, state_without, without, head_read, behind-read}
 
@@ -57,46 +56,38 @@ module _ {s : State} {nodes dots : List ℕ} {rects : List ℤ} {marks : List �
     pub count : 1 ≤ count_at nodes node₀
     pub place : HasPlace dots hit.place
     pub rect : HasRect rects hit.place
-    pub previous : ¬ (hit.previous ≡ none) → HasPlace dots hit.previous
+    pub previous : IfSome hit.previous (HasPlace dots)
+    pub small : hit.place < 4294967296
     pub live : 1 ≤ s.live
 
-  taken : (hit : Hit) (p : ℕ) → p ≡ hit.place → 1 ≤ sum_over (at_place p) chain₀
-      → (¬ (hit.previous ≡ none) → 1 ≤ sum_over (at_place hit.previous) chain₀) → 1 ≤ length chain₀ → Takeable hit
-  taken hit p e i j n =
+  place-in : (p : ℕ) → 1 ≤ sum_over (at_place p) chain₀ → HasPlace dots p
+  place-in p i = omega (arith, here_place h r p i, (holds-represented w₀ x h).dots)
+
+  taken : (p : ℕ) (previous : Option ℕ) → 1 ≤ sum_over (at_place p) chain₀ → IfSome previous (HasPlace dots) → 1 ≤ length chain₀
+      → Takeable (record { place = p; previous = previous })
+  taken p previous i before n =
       let rep = holds-represented w₀ x h in
       let l : p < x.places = here_place h r p i in
       let z : size x.tree ≡ s.live = sym rep.live in
       record {
         count = omega (arith, here-count h r);
-        place = omega (arith, rep.dots);
+        place = place-in p i;
         rect = omega (arith, rep.rects);
-        previous = λ ne. omega (arith, here_place h r hit.previous (j ne), rep.dots);
+        previous = before;
+        small = omega (arith, h.valid.places_fit);
         live = omega (arith, here-sum h r (λ d. 1), sum_over-one chain₀);
       }
 
   pub takeable : (hit : Hit) → Found id chain₀ hit → Takeable hit
   takeable hit (at_head d ys c o p e) =
-      taken hit d.place (ap (λ (y : Hit). y.place) (sym e)) (omega (arith, ap (sum_over (at_place d.place)) c, indicator-same d.place))
-      (λ ne. absurd (ne (ap (λ (y : Hit). y.previous) e))) (omega (arith, ap length c))
+      subst Takeable (sym e)
+      (taken d.place None (omega (arith, ap (sum_over (at_place d.place)) c, indicator-same d.place)) tt (omega (arith, ap length c)))
   takeable hit (behind xs q d ys c o p e) =
       let sum : (k : ℕ) → sum_over (at_place k) chain₀ ≡ sum_over (at_place k) xs + (at_place k q + (at_place k d + sum_over (at_place k) ys)) =
       λ k. ap (sum_over (at_place k)) c ∙ sum_over-append (at_place k) xs (q ∷ d ∷ ys) in
-      let before : 1 ≤ sum_over (at_place q.place) chain₀ = omega (arith, sum q.place, indicator-same q.place) in
-      taken hit d.place (ap (λ (y : Hit). y.place) (sym e)) (omega (arith, sum d.place, indicator-same d.place))
-      (λ ne. subst (λ (y : ℕ). 1 ≤ sum_over (at_place y) chain₀) (ap (λ (y : Hit). y.previous) (sym e)) before)
-      (omega (arith, ap length c, length-append xs (q ∷ d ∷ ys)))
-
-  -- a place of the chain is not none
-  not_none : (p : ℕ) → 1 ≤ sum_over (at_place p) chain₀ → ¬ (p ≡ none)
-  unfolding none
-  not_none p i e = omega (arith, here_place h r p i, h.valid.places_fit)
-
-  pub found_some : (hit : Hit) → Found id chain₀ hit → ¬ (hit.place ≡ none)
-  found_some hit (at_head d ys c o p e) z =
-      not_none d.place (omega (arith, ap (sum_over (at_place d.place)) c, indicator-same d.place)) (ap (λ (y : Hit). y.place) (sym e) ∙ z)
-  found_some hit (behind xs q d ys c o p e) z =
-      let sum = sum_over-append (at_place d.place) xs (q ∷ d ∷ ys) in
-      not_none d.place (omega (arith, ap (sum_over (at_place d.place)) c, sum, indicator-same d.place)) (ap (λ (y : Hit). y.place) (sym e) ∙ z)
+      subst Takeable (sym e)
+      (taken d.place (Some q.place) (omega (arith, sum d.place, indicator-same d.place))
+      (place-in q.place (omega (arith, sum q.place, indicator-same q.place))) (omega (arith, ap length c, length-append xs (q ∷ d ∷ ys))))
 
   -- ---- the shape after the stores
 
@@ -122,7 +113,7 @@ module _ {s : State} {nodes dots : List ℕ} {rects : List ℤ} {marks : List �
 
   without-stored : (hit : Hit) → Found id chain₀ hit → StoredWithout hit (after hit)
   without-stored hit (at_head d ys c o p e) =
-      let hit₀ : Hit = record { place = d.place; previous = none } in
+      let hit₀ : Hit = record { place = d.place; previous = None } in
       let t = takeable hit₀ (at_head d ys c o p refl) in
       let head = s.free_place in
       subst (λ (y : Hit). StoredWithout y (after y)) (sym e)
@@ -132,21 +123,22 @@ module _ {s : State} {nodes dots : List ℕ} {rects : List ℤ} {marks : List �
       (pop_holds x.groups x.places (memory w₀) s.free_group head x.tree x.free_groups x.free_places path₀ d ys
       (way-children h r) (path-sub r (root x) x.tree ∙ ap leaf c) (holds-stored w₀ x h)))
   without-stored hit (behind xs q d ys c o p e) =
-      let hit₀ : Hit = record { place = d.place; previous = q.place } in
+      let hit₀ : Hit = record { place = d.place; previous = Some q.place } in
       let t = takeable hit₀ (behind xs q d ys c o p refl) in
       let head = s.free_place in
-      let sum = sum_over-append (at_place q.place) xs (q ∷ d ∷ ys) in
-      let ne = not_none q.place (omega (arith, ap (sum_over (at_place q.place)) c, sum, indicator-same q.place)) in
       subst (λ (y : Hit). StoredWithout y (after y)) (sym e)
       (without-by hit₀ (xs ++ q ∷ ys) (drop_words (memory w₀) (paths.node_at 0 x.tree path₀) q.place d.place head) o p
       (ap (λ (a : ℕ). drop_words (memory w₀) a q.place d.place head) (path-node r (root x) 0 x.tree)
-      ∙ sym (behind-read nodes dots rects node₀ head (here-inside h r) d.place q.place ne t.place t.rect (t.previous ne)))
+      ∙ sym (behind-read nodes dots rects node₀ head (here-inside h r) d.place q.place t.place t.rect t.previous))
       (drop-holds x.groups x.places (memory w₀) s.free_group head x.tree x.free_groups x.free_places path₀ xs q d ys
       (way-children h r) (path-sub r (root x) x.tree ∙ ap leaf c) (holds-stored w₀ x h)))
 
   unlinked_length : (hit : Hit) → length (unlinked_dots dots hit) ≡ length dots
-  unlinked_length hit =
-      by_bool (eqb hit.previous none) (λ e. rw e refl) (λ e. rw e (next-length dots hit.previous (next_at dots hit.place)))
+  unlinked_length hit = go hit.previous (next_at dots hit.place)
+    where
+      go : (previous : Option ℕ) (next : ℕ) → length (relinked dots previous next) ≡ length dots
+      go None next = refl
+      go (Some q) next = next-length dots q next
 
   pub removed-holds : (hit : Hit) → first_has id chain₀ ≡ true → Found id chain₀ hit
       → Holds (world (state_without s hit) (nodes_without nodes dots node₀ hit) (dots_without dots hit s.free_place) (rects_without rects hit)

@@ -1,12 +1,11 @@
 -- The memory that the stores of a remove leave.
 --     nodes_without, dots_without, rects_without, state_without        the rows and the state without the dot
 --     head_read, behind-read       the memory after the stores, by where the dot stood
-use Rattle.std.specs.Prelude.{◌≡◌, refl, List, ℕ, ◌+◌, ◌-◌, ℤ}
-use Rattle.std.proofs.Common.{ap, ◌∙◌, arith, eq-eqb, ne_eqb}
+use Rattle.std.specs.Prelude.{◌≡◌, List, Some, None, ℕ, ◌+◌, ◌-◌, ℤ}
+use Rattle.std.proofs.Common.{ap, ◌∙◌, arith}
 use Rattle.model.specs.declared.State.{State}
 use Rattle.model.specs.Sums.{changed}
 use Rattle.model.specs.Dots.{zero_dot}
-use Rattle.model.specs.Layout.{none}
 use Rattle.model.specs.Memory.{Mem, read, first_at, count_at, next_at}
 use Rattle.memory.specs.declared.node.Node.{Node}
 use Rattle.memory.specs.Nodes.{node_at}
@@ -43,27 +42,21 @@ module _ (nodes dots : List ℕ) (rects : List ℤ) (b head : ℕ) (here : HasNo
   without hit = read (nodes_without nodes dots b hit) (dots_without dots hit head) (rects_without rects hit)
 
   pub head_read : (p : ℕ) → HasPlace dots p → HasRect rects p
-      → without (record { place = p; previous = none }) ≡ pop_words (read nodes dots rects) b p head
+      → without (record { place = p; previous = None }) ≡ pop_words (read nodes dots rects) b p head
   head_read p hp hr =
-      let y = eq-eqb none none refl in
       let v : Node = record { first = next_at dots p; count = count_at nodes b - 1 } in
-      let start : without (record { place = p; previous = none })
-      ≡ read (set_node_at nodes b v) (set_next_at (set_dot_at dots p zero_dot) p head) (set_rect_at rects p zero_dot.rect) = rw y refl in
-      start ∙ freed-read (set_node_at nodes b v) dots rects p head hp hr
+      freed-read (set_node_at nodes b v) dots rects p head hp hr
       ∙ ap (λ (m : Mem). free_words m p head) (node-stored nodes dots rects b v here)
 
-  pub behind-read : (p q : ℕ) → ¬ (q ≡ none) → HasPlace dots p → HasRect rects p → HasPlace dots q
-      → without (record { place = p; previous = q }) ≡ drop_words (read nodes dots rects) b q p head
-  behind-read p q ne hp hr hq =
-      let y = ne_eqb q none ne in
+  pub behind-read : (p q : ℕ) → HasPlace dots p → HasRect rects p → HasPlace dots q
+      → without (record { place = p; previous = Some q }) ≡ drop_words (read nodes dots rects) b q p head
+  behind-read p q hp hr hq =
       let m = read nodes dots rects in
       let linked = set_next_at dots q (next_at dots p) in
       let v : Node = record { first = first_at nodes b; count = count_at nodes b - 1 } in
-      let start : without (record { place = p; previous = q })
-      ≡ read (set_node_at nodes b v) (set_next_at (set_dot_at linked p zero_dot) p head) (set_rect_at rects p zero_dot.rect) = rw y refl in
       let next = changed m.next q (m.next p) in
       let same : set_node (set_next m q (m.next p)) b v ≡ set_count (set_next m q (m.next p)) b (m.count b - 1) =
       (λ i. record { first = changed-id m.first b i; count = changed m.count b (m.count b - 1); dot = m.dot; next = next }) in
-      start ∙ freed-read (set_node_at nodes b v) linked rects p head (omega (arith, next-length dots q (next_at dots p))) hr
+      freed-read (set_node_at nodes b v) linked rects p head (omega (arith, next-length dots q (next_at dots p))) hr
       ∙ ap (λ (z : Mem). free_words z p head)
       (node-stored nodes linked rects b v here ∙ ap (λ (z : Mem). set_node z b v) (next-stored nodes dots rects q (next_at dots p) hq) ∙ same)

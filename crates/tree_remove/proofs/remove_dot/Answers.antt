@@ -2,26 +2,23 @@
 -- what the code has looked up
 use Rattle.std.proofs.Common.{ap, arith, not, rules, sym, true, ◌∙◌, ◌≡◌}
 use borrow.Author.Tests.{not-false}
-use Rattle.model.specs.Layout.{none}
 use Rattle.model.specs.Calls.{can_count}
 use Rattle.tree.proofs.Laws.Routes.{holds-way}
 use Rattle.tree.proofs.Laws.Leaves.{leads-has}
 use Rattle.tree_remove.proofs.Laws.Answers.{Looked, Takes, leads-searchable, look-takes, look-no, look-past, look-yes}
 use Rattle.tree_remove.proofs.remove_dot.Goals as goal
-use Rattle.tree_remove.proofs.remove_dot.Goals.{After-find_dot-hit, Else-hit, Else-not-can_count}
+use Rattle.tree_remove.proofs.remove_dot.Goals.{After-find_dot, In-Some, Else-not-can_count}
 
-looked : (c : After-find_dot-hit) →
+looked : (c : After-find_dot) →
     let a = c.args in
-    Looked a.state a.nodes.now a.dots.now a.id a.rect c.find_leaf-node.result c.node_at-leaf.result c.find_dot-hit.result
-unfolding none
+    Looked a.state a.nodes.now a.dots.now a.id a.rect c.find_leaf-node.result c.node_at-leaf.result c.find_dot.result
 looked c = search
 
-takes : (c : Else-hit) →
+takes : (c : In-Some) →
     let a = c.args in
-    Takes a.state a.nodes.now a.dots.now a.rects.now c.find_leaf-node.result c.node_at-leaf.result c.find_dot-hit.result
-unfolding none
+    Takes a.state a.nodes.now a.dots.now a.rects.now c.find_leaf-node.result c.node_at-leaf.result c.in-Some.hit
 takes c =
-    look-takes c.requires.holds (looked c.before.before) c.if-hit.false
+    look-takes c.requires.holds (looked c.before) c.in-Some.is
 
 counts : (c : Else-not-can_count) → can_count c.args.state 1 ≡ true
 counts c = sym c.can_count.ensures ∙ not-false _ (ap not c.if-not-can_count.false)
@@ -29,36 +26,35 @@ counts c = sym c.can_count.ensures ∙ not-false _ (ap not c.if-not-can_count.fa
 pub node_at-leaf-requires : goal.node_at-leaf-requires
 node_at-leaf-requires c = leads-has c.requires.holds c.args.rect c.find_leaf-node.ensures
 
-pub find_dot-hit-requires : goal.find_dot-hit-requires
-find_dot-hit-requires c = leads-searchable c.requires.holds c.args.rect c.find_leaf-node.ensures c.node_at-leaf.ensures
+pub find_dot-requires : goal.find_dot-requires
+find_dot-requires c = leads-searchable c.requires.holds c.args.rect c.find_leaf-node.ensures c.node_at-leaf.ensures
 
-pub returns-then-hit : goal.returns-then-hit
-unfolding none
-returns-then-hit c marks x h = look-no h (looked (goal.at.returns-then-hit c).After-find_dot-hit) c.if-hit.true
+pub returns-in_default : goal.returns-in_default
+returns-in_default c marks x h = look-no h (looked (goal.at.returns-in_default c).After-find_dot) c.in_default.is
 
 pub unlink-requires : goal.unlink-requires
-unfolding none
-unlink-requires c = (takes (goal.at.unlink-requires c).Else-hit).unlinks
+unlink-requires c = (takes (goal.at.unlink-requires c).In-Some).unlinks
 
 pub free_place-requires : goal.free_place-requires
 free_place-requires c =
-    let stores = takes (goal.at.free_place-requires c).Else-hit in
+    let stores = takes (goal.at.free_place-requires c).In-Some in
     (omega arith, stores.rect)
 
 pub overflow_sub-state : goal.overflow_sub-state
-overflow_sub-state c = (takes (goal.at.overflow_sub-state c).Else-hit).live
+overflow_sub-state c = (takes (goal.at.overflow_sub-state c).In-Some).live
 
 pub returns-then-not-can_count : goal.returns-then-not-can_count
-unfolding none
-returns-then-not-can_count c marks x h = look-past h (looked (goal.at.returns-then-not-can_count c).After-find_dot-hit) c.if-hit.false c.can_count.ensures (search)
+returns-then-not-can_count c marks x h = look-past h (looked (goal.at.returns-then-not-can_count c).After-find_dot) c.in-Some.is c.can_count.ensures (search)
 
 pub returns : goal.returns
-unfolding none
-returns c marks x h = look-yes h (looked (goal.at.returns c).After-find_dot-hit) c.if-hit.false (counts (goal.at.returns c).Else-not-can_count)
-    c.unlink.ensures.0 c.unlink.ensures.1 c.free_place.ensures.0 c.free_place.ensures.1 c.changed.ensures
+returns c marks x h = look-yes h (looked (goal.at.returns c).After-find_dot) c.in-Some.is (counts (goal.at.returns c).Else-not-can_count)
+    c.unlink.ensures.0 c.unlink.ensures.1 c.free_place.ensures.0 c.free_place.ensures.1 c.changed-next.ensures
 
 pub find_leaf-node-requires : goal.find_leaf-node-requires
 find_leaf-node-requires c = search (rules, holds-way)
 
-pub changed-requires : goal.changed-requires
-changed-requires c = counts (goal.at.changed-requires c).Else-not-can_count
+pub changed-next-requires : goal.changed-next-requires
+changed-next-requires c = counts (goal.at.changed-next-requires c).Else-not-can_count
+
+pub overflow_cast-place : goal.overflow_cast-place
+overflow_cast-place c = omega (arith, (takes (goal.at.overflow_cast-place c).In-Some).small)

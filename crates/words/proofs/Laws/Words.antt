@@ -1,13 +1,13 @@
 -- Laws of numbers as words.
 --     signed_word  the word of a number stands for that number
 --     wide-words, low_wide, high-wide      two words and their number, both ways
---     signed-near, signed_far, far_wide, far_narrow        the number that a word stands for, and that it fits
---     added, added-fits, word_fits, own_cast, own_abs      the word of a number, and that it fits
-use Rattle.std.specs.Prelude.{◌≡◌, refl, true, false, ℕ, ◌-◌, ◌≤◌, ◌<◌, T, ℤ, pos, negsuc, ◌+ℤ◌, ◌-ℤ◌, nat_abs}
-use Rattle.std.proofs.Common.{ap, arith, SFits, Fits, lt-ltb, le-ltb}
-use Rattle.std.specs.Int.Signed.{lt_z, non_neg}
-use Rattle.std.specs.Int.{w32, w64}
-use Rattle.arithmetic.proofs.Laws.Linear.{ints, sum, dif, known, nat_eq, fits32, fits64}
+--     signed-near, signed_far      the number that a word stands for
+--     added, own_abs       the word of a number
+use Rattle.std.specs.Prelude.{◌≡◌, refl, true, false, ℕ, ◌-◌, ◌≤◌, ◌<◌, ℤ, pos, negsuc, ◌+ℤ◌, ◌-ℤ◌, nat_abs}
+use Rattle.std.proofs.Common.{ap, arith, SFits, lt-ltb, le-ltb}
+use Rattle.std.specs.Int.Signed.{lt_z}
+use Rattle.std.specs.Int.{w32}
+use Rattle.arithmetic.proofs.Laws.Linear.{ints, sum, dif, known, nat_eq}
 use Rattle.words.specs.Words.{signed, word_of, low_word, high_word, wide_of}
 
 -- ---- the number of a word
@@ -21,12 +21,6 @@ module _ (w : ℕ) (word : w < 4294967296) (far : 2147483648 ≤ w) where
   unfolding signed
   signed_far = rw (le-ltb w 2147483648 far) (nat_eq _ _ (omega (arith, ints, dif (pos w) (pos 4294967296))))
 
-  pub far_wide : SFits w64 (pos w -ℤ pos 4294967296)
-  far_wide = fits64 _ (omega (arith, ints, dif (pos w) (pos 4294967296)))
-
-  pub far_narrow : SFits w32 (pos w -ℤ pos 4294967296)
-  far_narrow = fits32 _ (omega (arith, ints, dif (pos w) (pos 4294967296)))
-
 -- ---- the word of a number
 
 pub signed_word : (z : ℤ) → SFits w32 z → signed (word_of z) ≡ z
@@ -38,18 +32,6 @@ signed_word (negsuc n) f =
 pub added : (z : ℤ) → SFits w32 z → lt_z z (pos 0) ≡ true → z +ℤ pos 4294967296 ≡ pos (word_of z)
 added (pos n) f h = absurd (omega (arith, ints))
 added (negsuc n) f h = nat_eq _ _ (omega (arith, ints, sum (negsuc n) (pos 4294967296), known f))
-
-pub added-fits : (z : ℤ) → SFits w32 z → SFits w64 (z +ℤ pos 4294967296)
-added-fits z f = fits64 _ (omega (arith, ints, sum z (pos 4294967296), known f))
-
-pub word_fits : (z : ℤ) → SFits w32 z → Fits w32 (word_of z)
-word_fits (pos n) f = record { fits = omega (arith, known f) }
-word_fits (negsuc n) f = record { fits = omega (arith, known f) }
-
--- a number that is not negative is its own word
-pub own_cast : (z : ℤ) → SFits w32 z → lt_z z (pos 0) ≡ false → T (non_neg z) × Fits w32 (nat_abs z)
-own_cast (pos n) f h = (tt, record { fits = omega (arith, known f) })
-own_cast (negsuc n) f h = absurd (omega (arith, ints))
 
 pub own_abs : (z : ℤ) → lt_z z (pos 0) ≡ false → nat_abs z ≡ word_of z
 own_abs (pos n) h = refl

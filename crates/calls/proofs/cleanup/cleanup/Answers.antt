@@ -1,13 +1,11 @@
 -- The check, then the cleanup without it.
+use Rattle.model.proofs.Laws.Refusals.{handed-on}
 use Rattle.calls.proofs.Laws.Pattern.{checked-nodes}
 use Rattle.calls.proofs.Laws.Calls.{cleanup-refused, cleanup-answered}
 use Rattle.calls.proofs.cleanup.cleanup.Goals as goal
 
-pub returns-then-refusal-ne0 : goal.returns-then-refusal-ne0
-returns-then-refusal-ne0 c = cleanup-refused c.check-refusal.ensures c.if-refusal-ne0.true
-
-pub cleanup_tree-requires : goal.cleanup_tree-requires
-cleanup_tree-requires c = checked-nodes c.check-refusal.ensures c.if-refusal-ne0.false
+pub returns-in_err-check : goal.returns-in_err-check
+returns-in_err-check c = rw (handed-on c.from_residual.ensures.1) (cleanup-refused c.check.ensures c.in_err-check.was)
 
 pub returns : goal.returns
-returns c = cleanup-answered c.check-refusal.ensures c.if-refusal-ne0.false _ _ c.cleanup_tree.ensures
+returns c = cleanup-answered c.check.ensures c.in_ok-check.was _ _ c.cleanup_tree.ensures

@@ -1,13 +1,11 @@
 -- The check, then the insert without it.
+use Rattle.model.proofs.Laws.Refusals.{handed-on}
 use Rattle.calls.proofs.Laws.Pattern.{checked-tree}
 use Rattle.calls.proofs.Laws.Calls.{insert-refused, insert-answered}
 use Rattle.calls.proofs.insert.insert.Goals as goal
 
-pub returns-then-refusal-ne0 : goal.returns-then-refusal-ne0
-returns-then-refusal-ne0 c = insert-refused c.check-refusal.ensures _ c.if-refusal-ne0.true
-
-pub insert_dot-requires : goal.insert_dot-requires
-insert_dot-requires c = checked-tree c.check-refusal.ensures c.if-refusal-ne0.false
+pub returns-in_err-check : goal.returns-in_err-check
+returns-in_err-check c = rw (handed-on c.from_residual.ensures.1) (insert-refused c.check.ensures _ c.in_err-check.was)
 
 pub returns : goal.returns
-returns c = insert-answered c.check-refusal.ensures _ c.if-refusal-ne0.false c.insert_dot.ensures
+returns c = insert-answered c.check.ensures _ c.in_ok-check.was c.insert_dot.ensures

@@ -1,13 +1,11 @@
 -- The check, then the leaves without it.
+use Rattle.model.proofs.Laws.Refusals.{handed-on}
 use Rattle.calls.proofs.Laws.Pattern.{checked-nodes}
 use Rattle.calls.proofs.Laws.Calls.{leaves-refused, leaves-answered}
 use Rattle.calls.proofs.leaves.leaves.Goals as goal
 
-pub returns-then-refusal-ne0 : goal.returns-then-refusal-ne0
-returns-then-refusal-ne0 c = leaves-refused c.check-refusal.ensures _ c.if-refusal-ne0.true
-
-pub leaves_row-requires : goal.leaves_row-requires
-leaves_row-requires c = checked-nodes c.check-refusal.ensures c.if-refusal-ne0.false
+pub returns-in_err-check : goal.returns-in_err-check
+returns-in_err-check c = rw (handed-on c.from_residual.ensures.1) (leaves-refused c.check.ensures _ c.in_err-check.was)
 
 pub returns : goal.returns
-returns c = leaves-answered c.check-refusal.ensures _ c.if-refusal-ne0.false _ _ c.leaves_row.ensures
+returns c = leaves-answered c.check.ensures _ c.in_ok-check.was _ _ c.leaves_row.ensures

@@ -9,8 +9,5 @@ returns-then-not-lengths_fit c = make-lengths _ _ _ _ _ c.lengths_fit.ensures (a
 pub returns-then-not-in_range : goal.returns-then-not-in_range
 returns-then-not-in_range c = make-settings _ _ _ _ _ c.lengths_fit.ensures (ap not c.if-not-lengths_fit.false) c.in_range.ensures (ap not c.if-not-in_range.true)
 
-pub make_fresh-requires : goal.make_fresh-requires
-make_fresh-requires c = make-ready _ _ _ _ _ c.lengths_fit.ensures (ap not c.if-not-lengths_fit.false) c.in_range.ensures (ap not c.if-not-in_range.false)
-
 pub returns : goal.returns
 returns c = make-made _ _ _ _ _ c.lengths_fit.ensures (ap not c.if-not-lengths_fit.false) c.in_range.ensures (ap not c.if-not-in_range.false) c.make_fresh.ensures

@@ -1,13 +1,11 @@
 -- The check, then the placing without it.
+use Rattle.model.proofs.Laws.Refusals.{handed-on}
 use Rattle.calls.proofs.Laws.Pattern.{checked-tree}
 use Rattle.calls.proofs.Laws.Calls.{place-refused, place-answered}
 use Rattle.calls.proofs.place.place.Goals as goal
 
-pub returns-then-refusal-ne0 : goal.returns-then-refusal-ne0
-returns-then-refusal-ne0 c = place-refused c.check-refusal.ensures _ c.if-refusal-ne0.true
-
-pub place_dot-requires : goal.place_dot-requires
-place_dot-requires c = checked-tree c.check-refusal.ensures c.if-refusal-ne0.false
+pub returns-in_err-check : goal.returns-in_err-check
+returns-in_err-check c = rw (handed-on c.from_residual.ensures.1) (place-refused c.check.ensures _ c.in_err-check.was)
 
 pub returns : goal.returns
-returns c = place-answered c.check-refusal.ensures _ c.if-refusal-ne0.false c.place_dot.ensures
+returns c = place-answered c.check.ensures _ c.in_ok-check.was c.place_dot.ensures

@@ -1,13 +1,11 @@
 -- The check, then the remove without it.
+use Rattle.model.proofs.Laws.Refusals.{handed-on}
 use Rattle.calls.proofs.Laws.Pattern.{checked-tree}
 use Rattle.calls.proofs.Laws.Calls.{remove-refused, remove-answered}
 use Rattle.calls.proofs.remove.remove.Goals as goal
 
-pub returns-then-refusal-ne0 : goal.returns-then-refusal-ne0
-returns-then-refusal-ne0 c = remove-refused c.check-refusal.ensures _ _ c.if-refusal-ne0.true
-
-pub remove_dot-requires : goal.remove_dot-requires
-remove_dot-requires c = checked-tree c.check-refusal.ensures c.if-refusal-ne0.false
+pub returns-in_err-check : goal.returns-in_err-check
+returns-in_err-check c = rw (handed-on c.from_residual.ensures.1) (remove-refused c.check.ensures _ _ c.in_err-check.was)
 
 pub returns : goal.returns
-returns c = remove-answered c.check-refusal.ensures _ _ c.if-refusal-ne0.false c.remove_dot.ensures
+returns c = remove-answered c.check.ensures _ _ c.in_ok-check.was c.remove_dot.ensures

@@ -5,4 +5,4 @@ use Rattle.host_rows.proofs.records.record_in.Goals as goal
 
 pub returns : goal.returns
 unfolding record_in
-returns c = λ k. record { kind = get_or c.args.records.now (7 * c.args.i) 0; dot = c.dot_in-dot.ensures k }
+returns c = λ k. record { kind = c.from.ensures k; dot = c.dot_in-dot.ensures k }

@@ -9,7 +9,7 @@ returns c =
     let f = c.ranges in
     let said = rw (told f.x1 f.y1 f.x2 f.y2) at c.query-done.ensures in
     exported_read _ c.rows_fit.ensures (ap not c.if-not-rows_fit.false)
-    c.state_in-before.ensures said refl c.query_out.ensures
+    c.state_in-before.ensures said refl c.answer_out.ensures
 
 pub returns-then-not-rows_fit : goal.returns-then-not-rows_fit
 returns-then-not-rows_fit c = search (rules, exported_other)
@@ -17,5 +17,5 @@ returns-then-not-rows_fit c = search (rules, exported_other)
 pub state_in-before-requires : goal.state_in-before-requires
 state_in-before-requires c = search (rules, twelve)
 
-pub query_out-requires : goal.query_out-requires
-query_out-requires c = search (rules, two)
+pub answer_out-requires : goal.answer_out-requires
+answer_out-requires c = search (rules, two)

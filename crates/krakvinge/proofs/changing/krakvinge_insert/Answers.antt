@@ -1,19 +1,19 @@
 -- The call's own contract, after a test of both rows.
 use Rattle.std.proofs.Common.{ap, not, rules}
-use Rattle.model.specs.Answers.{insert_state}
+use Rattle.model.specs.Answers.{change_state}
 use Rattle.host_rows.proofs.Laws.Rows.{twelve, twelve-two, told}
 use Rattle.krakvinge.proofs.Laws.Exports.{exported_other, exported_changed}
 use Rattle.krakvinge.proofs.changing.krakvinge_insert.Goals as goal
 
-pub insert_out-requires : goal.insert_out-requires
-insert_out-requires c = twelve-two _ _ c.rows_fit.ensures (ap not c.if-not-rows_fit.false)
+pub change_out-requires : goal.change_out-requires
+change_out-requires c = twelve-two _ _ c.rows_fit.ensures (ap not c.if-not-rows_fit.false)
 
 pub returns : goal.returns
 returns c =
     let f = c.ranges in
     let said = rw (told f.x1 f.y1 f.x2 f.y2) at c.insert-done.ensures in
-    exported_changed (λ t. insert_state t c.insert-done.result) _ c.rows_fit.ensures (ap not c.if-not-rows_fit.false)
-    c.state_in-before.ensures.0 said c.insert_out.ensures.0 c.insert_out.ensures.1
+    exported_changed (λ t. change_state t c.insert-done.result) _ c.rows_fit.ensures (ap not c.if-not-rows_fit.false)
+    c.state_in-before.ensures.0 said c.change_out.ensures.0 c.change_out.ensures.1
 
 pub returns-then-not-rows_fit : goal.returns-then-not-rows_fit
 returns-then-not-rows_fit c = search (rules, exported_other)

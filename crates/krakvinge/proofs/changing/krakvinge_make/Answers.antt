@@ -7,4 +7,4 @@ returns c = make-row _ _ _ _ _ _ _ _ _ _ _ _ c.make-done.result c.if-state-ne12.
     c.make_out.ensures.1 c.make_out.ensures.0
 
 pub returns-then-state-ne12 : goal.returns-then-state-ne12
-returns-then-state-ne12 c = make_other _ _ _ _ _ c.if-state-ne12.true
+returns-then-state-ne12 c = rw c.refused.ensures (make_other _ _ _ _ _ c.if-state-ne12.true)

@@ -1,6 +1,6 @@
 -- Refusal 13, a test of both rows, then the call's own contract.
 use Rattle.std.proofs.Common.{ap, not, ◌∙◌, ◌≡◌}
-use Rattle.model.specs.Answers.{patch_state}
+use Rattle.model.specs.Answers.{change_state}
 use Rattle.model.specs.Patch.{patch_fits}
 use Rattle.host_rows.specs.Rows.{patch_of}
 use Rattle.host_rows.proofs.Laws.Rows.{twelve, twelve-two, told-patch}
@@ -13,21 +13,24 @@ tested : (c : After-in_range) → let a = c.args in
 tested c = let f = c.ranges in c.in_range.ensures ∙ ap patch_fits (told-patch f.x f.y)
 
 pub returns-then-not-in_range : goal.returns-then-not-in_range
-returns-then-not-in_range c = patch_bad (tested (goal.at.returns-then-not-in_range c).After-in_range) (ap not c.if-not-in_range.true)
+returns-then-not-in_range c =
+    rw c.refused.ensures (patch_bad (tested (goal.at.returns-then-not-in_range c).After-in_range) (ap not c.if-not-in_range.true))
 
 pub returns-then-not-rows_fit : goal.returns-then-not-rows_fit
-returns-then-not-rows_fit c = patch-good (tested (goal.at.returns-then-not-rows_fit c).After-in_range) (ap not c.if-not-in_range.false) (exported_other c.rows_fit.ensures (ap not c.if-not-rows_fit.true))
+returns-then-not-rows_fit c =
+    let other = exported_other c.rows_fit.ensures (ap not c.if-not-rows_fit.true) in
+    rw c.refused-then-not-rows_fit.ensures (patch-good (tested (goal.at.returns-then-not-rows_fit c).After-in_range) (ap not c.if-not-in_range.false) other)
 
 pub state_in-before-requires : goal.state_in-before-requires
 state_in-before-requires c = twelve _ _ c.rows_fit.ensures (ap not c.if-not-rows_fit.false)
 
-pub patch_out-requires : goal.patch_out-requires
-patch_out-requires c = twelve-two _ _ c.rows_fit.ensures (ap not c.if-not-rows_fit.false)
+pub change_out-requires : goal.change_out-requires
+change_out-requires c = twelve-two _ _ c.rows_fit.ensures (ap not c.if-not-rows_fit.false)
 
 pub returns : goal.returns
 returns c =
     let f = c.ranges in
     let said = rw (told-patch f.x f.y) at c.patch-done.ensures in
     patch-good (tested (goal.at.returns c).After-in_range) (ap not c.if-not-in_range.false)
-    (exported_changed (λ t. patch_state t c.patch-done.result) _ c.rows_fit.ensures (ap not c.if-not-rows_fit.false)
-    c.state_in-before.ensures.0 said c.patch_out.ensures.0 c.patch_out.ensures.1)
+    (exported_changed (λ t. change_state t c.patch-done.result) _ c.rows_fit.ensures (ap not c.if-not-rows_fit.false)
+    c.state_in-before.ensures.0 said c.change_out.ensures.0 c.change_out.ensures.1)

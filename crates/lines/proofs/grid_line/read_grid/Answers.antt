@@ -1,16 +1,26 @@
--- Too short, too long, of another letter, or by its fields.
-use Rattle.std.proofs.Common.{rules}
-use Rattle.lines.proofs.Laws.Grids.{grid_line_lem, grid_none, grid_empty, grid_other}
+-- A rectangle and two integers, to the end.
+use Rattle.std.proofs.Common.{rules, refl}
+use Rattle.lines.proofs.Laws.Digits.{first-byte}
+use Rattle.lines.proofs.Laws.Fields.{reads_then}
+use Rattle.lines.proofs.Laws.Grids.{grid_none, grid_last}
 use Rattle.lines.proofs.grid_line.read_grid.Goals as goal
 
-pub returns-then-line-eq0 : goal.returns-then-line-eq0
-returns-then-line-eq0 c = search (rules, grid_empty)
+pub returns-in_err-first : goal.returns-in_err-first
+returns-in_err-first c =
+    rw c.from_residual.ensures (grid_none c.if-line-gt80.false (search (rules, first-byte)) _ refl c.in_err-first.ensures)
 
-pub returns-then-line-ne71 : goal.returns-then-line-ne71
-returns-then-line-ne71 c = search (rules, grid_other)
+pub returns-in_err-columns : goal.returns-in_err-columns
+returns-in_err-columns c =
+    rw c.from_residual-in_err-columns.ensures
+    (grid_none c.if-line-gt80.false (search (rules, first-byte)) _ refl (reads_then c.in_ok-first.ensures c.in_err-columns.ensures))
 
-pub returns-then-fields : goal.returns-then-fields
-returns-then-fields c = search (rules, grid_line_lem)
+pub returns-in_err-rows : goal.returns-in_err-rows
+returns-in_err-rows c =
+    let numbers = reads_then c.in_ok-columns.ensures c.in_err-rows.ensures in
+    rw c.from_residual-in_err-rows.ensures
+    (grid_none c.if-line-gt80.false (search (rules, first-byte)) _ refl (reads_then c.in_ok-first.ensures numbers))
 
-pub returns-else-fields : goal.returns-else-fields
-returns-else-fields c = search (rules, grid_none)
+pub returns : goal.returns
+returns c =
+    grid_last c.if-line-gt80.false (search (rules, first-byte)) c.then_some.ensures c.is_empty.ensures
+    c.in_ok-first.ensures c.in_ok-columns.ensures c.in_ok-rows.ensures (search rules) (search rules) (search rules) (search rules) (search rules) (search rules)

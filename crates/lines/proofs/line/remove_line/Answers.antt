@@ -1,13 +1,17 @@
--- The fields without an ink decide.
-use Rattle.std.proofs.Common.{rules}
-use Rattle.lines.proofs.Laws.Lines.{line-call, line-none}
+-- An id and a rectangle, to the end.
+use Rattle.std.proofs.Common.{refl}
+use Rattle.lines.proofs.Laws.Fields.{reads_then}
+use Rattle.lines.proofs.Laws.Lines.{call-none, call-last}
 use Rattle.lines.specs.declared.line.Call.TheVariants as call
 use Rattle.lines.proofs.line.remove_line.Goals as goal
 
-pub returns-then-fields : goal.returns-then-fields
-returns-then-fields c =
-    let dot = c.dot_fields-fields.result.dot in
-    line-call (call.Remove dot.id dot.rect) (search) c.dot_fields-fields.ensures.plain (search)
+pub returns-in_err-id : goal.returns-in_err-id
+returns-in_err-id c = rw c.from_residual.ensures (call-none (λ zs. (_, refl)) c.in_err-id.ensures)
 
-pub returns-else-fields : goal.returns-else-fields
-returns-else-fields c = search (rules, line-none)
+pub returns-in_err-rect : goal.returns-in_err-rect
+returns-in_err-rect c = rw c.from_residual-in_err-rect.ensures (call-none (λ zs. (_, refl)) (reads_then c.in_ok-id.ensures c.in_err-rect.ensures))
+
+pub returns : goal.returns
+returns c =
+    let dot = reads_then c.in_ok-id.ensures c.in_ok-rect.ensures in
+    call-last (call.Remove c.in_ok-id.id c.in_ok-rect.rect) dot (λ zs. refl) c.is_empty.ensures c.then_some.ensures

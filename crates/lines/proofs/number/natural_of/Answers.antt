@@ -1,14 +1,10 @@
 -- The bytes are added up, and the sum's text is held against them.
-use Rattle.std.proofs.Common.{arith, rules}
-use Rattle.lines.proofs.Laws.Digits.{natural-part}
-use Rattle.lines.proofs.Laws.Rows.{digits_end, put_count}
+use Rattle.std.proofs.Common.{rules, tests, ◌≡◌}
+use Rattle.lines.specs.Text.{decimal}
+use Rattle.lines.proofs.Laws.Digits.{natural-part, decimal-std}
 use Rattle.lines.proofs.number.natural_of.Goals as goal
 
-pub slice_bounds-text-end : goal.slice_bounds-text-end
-slice_bounds-text-end c = omega (arith, digits_end)
-
-pub slice_bounds-same-end : goal.slice_bounds-same-end
-slice_bounds-same-end c = search (rules, put_count)
-
 pub returns : goal.returns
-returns c = search (rules, natural-part)
+returns c =
+    let text : decimal c.value_of-value.result ≡ c.as_bytes.result.now = search (rules, decimal-std) in
+    rw (c.then_some.ensures) (natural-part _ _ _ (search rules) c.value_of-value.ensures (rw text (search (rules, tests))))

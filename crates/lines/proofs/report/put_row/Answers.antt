@@ -1,19 +1,14 @@
-use Rattle.std.proofs.Common.{arith, ◌≡◌}
+use Rattle.std.proofs.Common.{arith}
 use Rattle.lines.proofs.Laws.Report.{row-none, row_more, row_end}
 use Rattle.lines.proofs.report.put_row.Goals as goal
 
 pub loop-column-init : goal.loop-column-init
-loop-column-init c = (omega arith, omega arith, search row-none)
+loop-column-init c = search row-none
 
 pub put_window-next-requires : goal.put_window-next-requires
 put_window-next-requires c =
-    let end = row_end _ _ _ _ (omega arith) c.requires.1 c.loop-column.invariant.2 in
+    let end = row_end _ _ _ _ (omega arith) c.requires.1 c.loop-column.invariant in
     (omega arith, omega arith, omega (arith, end))
 
 pub loop-column-preserved : goal.loop-column-preserved
-loop-column-preserved c = (omega arith, omega arith, search row_more)
-
-pub returns : goal.returns
-returns c =
-    let all : c.loop-column.column ≡ c.args.columns = omega arith in
-    rw (← all) c.loop-column.invariant.2
+loop-column-preserved c = search row_more

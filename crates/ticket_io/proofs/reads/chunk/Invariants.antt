@@ -8,8 +8,8 @@ use Rattle.ticket_io.proofs.reads.chunk.Given as goal
 abbrev pub invariant-loop-at : goal.invariant-loop-at
 invariant-loop-at g l =
     let i = l.initial in record {
-      so_far : Chunking l.program i.phase (take i.kept i.line) l.bytes (length i.line) (lent i.nodes i.dots i.rects i.marks i.row i.out) l.phase l.kept l.at l.line
-          (lent l.nodes l.dots l.rects l.marks l.row l.out);
+      so_far : Chunking l.program i.phase (take i.kept i.line) l.bytes (length i.line) (lent i.nodes i.dots i.rects i.marks i.row i.out)
+          l.phase l.kept l.at l.line (lent l.nodes l.dots l.rects l.marks l.row l.out);
       room : Room l.program (length l.row) (length l.out);
     }
 

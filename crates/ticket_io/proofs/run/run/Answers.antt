@@ -4,17 +4,17 @@ use Rattle.ticket.proofs.Laws.Room.{room-kept}
 use Rattle.ticket_io.proofs.Laws.Reading.{reading-start, reading-on, reading-over}
 use Rattle.ticket_io.proofs.run.run.Goals as goal
 
-pub loop-turns-init : goal.loop-turns-init
-loop-turns-init g c = record { so_far = reading-start _ _ _ _; kept = omega arith; room = c.requires.0; line_room = c.requires.1 }
+pub loop-init : goal.loop-init
+loop-init g c = record { so_far = reading-start _ _ _ _; kept = omega arith; room = c.requires.0; line_room = c.requires.1 }
 
 pub returns-then-is_over : goal.returns-then-is_over
 returns-then-is_over g c =
-    let i = c.loop-turns.invariant in
+    let i = c.loop.invariant in
     reading-over i.so_far i.line_room c.read_on-progress.ensures.read_on
 
-pub loop-turns-preserved : goal.loop-turns-preserved
-loop-turns-preserved g c =
-    let i = c.loop-turns.invariant in record {
+pub loop-preserved : goal.loop-preserved
+loop-preserved g c =
+    let i = c.loop.invariant in record {
       so_far = reading-on i.so_far i.line_room c.read_on-progress.ensures.read_on (sym c.is_over.ensures ∙ c.if-is_over.false);
       kept = c.read_on-progress.ensures.kept_after;
       room = room-kept (search rules) (search rules) i.room;

@@ -25,8 +25,8 @@ overflow_mul-patch-2 c = omega (arith, few (goal.at.overflow_mul-patch-2 c).Star
 pub dots_between-requires : goal.dots_between-requires
 dots_between-requires c =
     let fits = few (goal.at.dots_between-requires c).Start in (
-      below-few _ _ _ (λ i. (c.corners_within-across.ensures i).to) (omega arith),
-      below-few _ _ _ (λ i. (c.corners_within-down.ensures i).to) (omega arith),
+      below-few _ _ _ (λ i. (c.corners_within-across.ensures i).end) (omega arith),
+      below-few _ _ _ (λ i. (c.corners_within-down.ensures i).end) (omega arith),
       fits.tint_fits,
       c.requires.1,
     )

@@ -10,7 +10,7 @@ loop-i-init c = (refl, fill_start _ _ c.requires)
 pub loop-i-preserved : goal.loop-i-preserved
 loop-i-preserved c =
     let inv = c.loop-i.invariant in
-    (inv.0, fill_more inv.1 c.loop-i-test.true c.next_sum-sum.ensures)
+    (inv.0, fill_more inv.1 c.loop-i-test.true c.next_sum.ensures)
 
 pub returns : goal.returns
 returns c = search (rules, fill_end)

@@ -1,27 +1,28 @@
-use Rattle.std.proofs.Common.{arith, rules}
-use Rattle.tree_all.proofs.Laws.Chains.{rest-start, rest-turn, rest-place, rest-room, rest_end}
+use Rattle.std.proofs.Common.{arith, refl, ◌∙◌}
+use Rattle.memory.proofs.Laws.Chains.{passed}
+use Rattle.tree_all.proofs.Laws.Chains.{has-chain, rest-start, rest-turn, rest-place, rest-room, rest_end}
 use Rattle.tree_all.proofs.walk.list_chain.Goals as goal
 
-pub next_at-place-requires : goal.next_at-place-requires
-next_at-place-requires c = rest-place c.loop-left.invariant.0 c.requires c.loop-left-test.true
+pub loop-place-init : goal.loop-place-init
+loop-place-init c =
+    let new = c.new-place-items.ensures in
+    rw (c.into_iter-place-iterator.ensures.into_iter_gives, new.0, new.1, new.2) (has-chain c.requires, tt, refl, rest-start)
 
 pub id_at-requires : goal.id_at-requires
-id_at-requires c = rest-place c.loop-left.invariant.0 c.requires c.loop-left-test.true
+id_at-requires c = rest-place c.loop-place.invariant.3 c.requires (passed c.loop-place.invariant.2 c.in-Some.ensures.steps.1)
 
 pub bounds-row-at : goal.bounds-row-at
-bounds-row-at c = (rest-room c.loop-left.invariant.0 c.requires c.loop-left-test.true).0
+bounds-row-at c = (rest-room c.loop-place.invariant.3 c.requires (passed c.loop-place.invariant.2 c.in-Some.ensures.steps.1)).0
 
 pub overflow_add-at : goal.overflow_add-at
-overflow_add-at c = omega (arith, (rest-room c.loop-left.invariant.0 c.requires c.loop-left-test.true).1)
+overflow_add-at c =
+    omega (arith, (rest-room c.loop-place.invariant.3 c.requires (passed c.loop-place.invariant.2 c.in-Some.ensures.steps.1)).1)
 
-pub loop-left-preserved : goal.loop-left-preserved
-loop-left-preserved c = (rest-turn c.loop-left.invariant.0 c.loop-left-test.true c.id_at.ensures c.next_at-place.ensures, search rules)
+pub loop-place-preserved : goal.loop-place-preserved
+loop-place-preserved c =
+    let step = c.in-Some.ensures.steps in
+    let same = c.loop-place.invariant.2 in
+    (c.in-Some.ensures.goes.keeps, tt, step.0 ∙ same, rest-turn c.loop-place.invariant.3 (passed same step.1) c.id_at.ensures)
 
 pub returns : goal.returns
-returns c = rest_end c.loop-left.invariant.0 (omega arith)
-
-pub loop-left-init : goal.loop-left-init
-loop-left-init c = (rest-start, search rules)
-
-pub shape_of-row : goal.shape_of-row
-shape_of-row c = c.loop-left.invariant.0.same
+returns c = rest_end c.loop-place.invariant.3 c.in-None.ensures.steps

@@ -1,24 +1,31 @@
-use Rattle.std.proofs.Common.{arith, rules}
-use Rattle.tree_check.proofs.Laws.Frees.{free-start, free-short, free-none, free_seen, free_bad, free-next, free_end}
+use Rattle.std.proofs.Common.{arith, rules, ap, not, ◌≡◌, ◌-◌}
+use Rattle.std.proofs.Math.Nat.{sub-zero}
+use Rattle.tree_check.proofs.Laws.Frees.{free-start, free-none, free_seen, free_bad, free-next, free_end, free-last}
 use Rattle.tree_check.proofs.free.check_free.Goals as goal
 
-pub loop-link-init : goal.loop-link-init
-loop-link-init c = (omega arith, search free-start)
+pub loop-init : goal.loop-init
+loop-init c = rw (sub-zero c.args.most) (search free-start)
 
-pub returns-then-left-eq0 : goal.returns-then-left-eq0
-returns-then-left-eq0 c = search (rules, free-short)
+pub returns-then-link : goal.returns-then-link
+returns-then-link c = search (rules, free_end)
 
-pub returns-then-group-groups : goal.returns-then-group-groups
-returns-then-group-groups c = search (rules, free-none)
+pub returns-in_default : goal.returns-in_default
+returns-in_default c = free-none _ _ _ _ _ _ _ _ _ c.loop.invariant c.if-link.false c.in_default.ensures
 
 pub returns-then-marks-places-ne0 : goal.returns-then-marks-places-ne0
-returns-then-marks-places-ne0 c = search (rules, free_seen)
+returns-then-marks-places-ne0 c =
+    free_seen _ _ _ _ _ _ _ _ _ c.loop.invariant c.if-link.false c.in-Some.ensures c.if-marks-places-ne0.true
 
 pub returns-then-not-is_free : goal.returns-then-not-is_free
-returns-then-not-is_free c = search (rules, free_bad)
+returns-then-not-is_free c =
+    free_bad _ _ _ _ _ _ _ _ _ c.loop.invariant c.if-link.false c.in-Some.ensures c.is_free.ensures (ap not c.if-not-is_free.true)
 
-pub loop-link-preserved : goal.loop-link-preserved
-loop-link-preserved c = (search rules, search free-next)
+pub loop-preserved : goal.loop-preserved
+loop-preserved c =
+    free-next _ _ _ _ _ _ _ _ _ c.loop.invariant c.if-link.false c.in-Some.ensures c.is_free.ensures (omega arith) (search) (search)
+    c.node_at-link.ensures (omega arith)
 
 pub returns : goal.returns
-returns c = search (rules, free_end)
+returns c =
+    let none_left : c.args.most - c.loop.counter ≡ 0 = omega arith in
+    search (rules, free-last)

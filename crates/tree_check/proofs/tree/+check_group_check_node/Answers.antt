@@ -7,13 +7,13 @@ use Rattle.tree_check.proofs.tree.+check_group_check_node.Goals as goal
 
 -- ---- a group
 
-pub check_group-loop-left-init : goal.check_group-loop-left-init
-check_group-loop-left-init t c = search (ahead-start, rules)
+pub check_group-loop-child-init : goal.check_group-loop-child-init
+check_group-loop-child-init t c = search (ahead-start, rules)
 
 -- an empty leaf
-pub check_group-loop-left-preserved-then-is_empty : goal.check_group-loop-left-preserved-then-is_empty
-check_group-loop-left-preserved-then-is_empty t c =
-    let some : 0 < c.loop-left.left = omega arith in
+pub check_group-loop-child-preserved-then-is_empty : goal.check_group-loop-child-preserved-then-is_empty
+check_group-loop-child-preserved-then-is_empty t c =
+    let some : 0 < c.loop-child.child = omega arith in
     search (ahead-empty, rules)
 
 -- any other child
@@ -27,12 +27,12 @@ check_group-check_node-requires t c =
 
 pub check_group-returns-then-not-check_node : goal.check_group-returns-then-not-check_node
 check_group-returns-then-not-check_node t c =
-    let some : 0 < c.loop-left.left = omega arith in
+    let some : 0 < c.loop-child.child = omega arith in
     search (ahead_bad, rules)
 
-pub check_group-loop-left-preserved : goal.check_group-loop-left-preserved
-check_group-loop-left-preserved t c =
-    let some : 0 < c.loop-left.left = omega arith in
+pub check_group-loop-child-preserved : goal.check_group-loop-child-preserved
+check_group-loop-child-preserved t c =
+    let some : 0 < c.loop-child.child = omega arith in
     search (ahead-next, rules)
 
 -- no child is left
@@ -45,15 +45,16 @@ check_group-returns t c = search (ahead_end, rules)
 pub check_node-returns-then-not-splits : goal.check_node-returns-then-not-splits
 check_node-returns-then-not-splits t c = search (no-split, rules)
 
-pub check_node-returns-then-group-groups : goal.check_node-returns-then-group-groups
-check_node-returns-then-group-groups t c = search (no-group, rules)
+pub check_node-returns-in_default : goal.check_node-returns-in_default
+check_node-returns-in_default t c = let none_at = c.in_default.ensures in search (no-group, rules)
 
 pub check_node-returns-then-marks-places-ne0 : goal.check_node-returns-then-marks-places-ne0
 check_node-returns-then-marks-places-ne0 t c = search (seen_group, rules)
 
 pub check_node-check_group-requires : goal.check_node-check_group-requires
 check_node-check_group-requires t c =
-    let given : GroupReady c.args.region c.args.groups c.group_at-group.result 5 = search group-given in
+    let at = c.in-Some.ensures in
+    let given : GroupReady c.args.region c.args.groups c.in-Some.group 5 = search group-given in
     let one : 1 ≤ levels c.args.region = levels-some given in
     (omega arith, (search marked-ready, given))
 

@@ -1,6 +1,6 @@
 -- The walk of a node calls that of its group, which calls that of each child. Each way is a law of Laws.Trees and Laws.Groups.
 -- The measure of a node is twice the levels that are left below it; of a group, one more than that of its children.
--- The loop's invariant: what is left to check leads to the whole (`Ahead`). The children that are left fall.
+-- The loop's invariant: what is left to check leads to the whole (`Ahead`).
 use Rattle.std.proofs.Common.{◌*◌, ◌+◌, ◌-◌}
 use Rattle.tree_check.proofs.Laws.Regions.{levels}
 use Rattle.tree_check.proofs.Laws.Groups.{Ahead}
@@ -12,9 +12,6 @@ decreases-check_group l = 2 * (levels l.region - 1) + 1
 abbrev pub decreases-check_node : goal.decreases-check_node
 decreases-check_node l = 2 * levels l.region
 
-abbrev pub invariant-check_group-loop-left : goal.invariant-check_group-loop-left
-invariant-check_group-loop-left l =
-    Ahead l.region l.nodes l.dots l.rects l.places l.groups l.group l.initial.marks l.marks l.left
-
-abbrev pub decreases-check_group-loop-left : goal.decreases-check_group-loop-left
-decreases-check_group-loop-left l = l.left
+abbrev pub invariant-check_group-loop-child : goal.invariant-check_group-loop-child
+invariant-check_group-loop-child l =
+    Ahead l.region l.nodes l.dots l.rects l.places l.groups l.group l.initial.marks l.marks l.child

@@ -20,7 +20,7 @@ passed-5 : (c : Else-not-contains) → Not5 c.args.state c.args.dot
 passed-5 c =
     let four : Not4 c.args.dot = search not_4 in
     let ten = not_10 four c.has_good_ink.ensures (ap not c.if-not-has_good_ink.false) in
-    not_5 ten c.root.ensures c.contains.ensures (ap not c.if-not-contains.false)
+    not_5 ten c.from.ensures c.contains.ensures (ap not c.if-not-contains.false)
 
 counted : (c : After-splits_needed-needed) →
     let a = c.args in
@@ -28,7 +28,7 @@ counted : (c : After-splits_needed-needed) →
 counted c =
     let four : Not4 c.args.dot = search not_4 in
     let ten = not_10 four c.has_good_ink.ensures (ap not c.if-not-has_good_ink.false) in
-    let five = not_5 ten c.root.ensures c.contains.ensures (ap not c.if-not-contains.false) in
+    let five = not_5 ten c.from.ensures c.contains.ensures (ap not c.if-not-contains.false) in
     record {
       tests = not_6 five c.places_in.ensures c.if-places_in-live.false;
       leads = c.find_leaf-leaf.ensures;
@@ -50,7 +50,7 @@ pub returns-then-not-has_good_ink : goal.returns-then-not-has_good_ink
 returns-then-not-has_good_ink c marks x h = refuse_10 h _ (passed-4 (goal.at.returns-then-not-has_good_ink c).Else-is_inverted-is_far_out) c.has_good_ink.ensures (search)
 
 pub returns-then-not-contains : goal.returns-then-not-contains
-returns-then-not-contains c marks x h = refuse_5 h _ (passed-10 (goal.at.returns-then-not-contains c).Else-not-has_good_ink) c.root.ensures c.contains.ensures (search)
+returns-then-not-contains c marks x h = refuse_5 h _ (passed-10 (goal.at.returns-then-not-contains c).Else-not-has_good_ink) c.from.ensures c.contains.ensures (search)
 
 pub returns-then-places_in-live : goal.returns-then-places_in-live
 returns-then-places_in-live c marks x h = refuse_6 h _ (passed-5 (goal.at.returns-then-places_in-live c).Else-not-contains) c.places_in.ensures (search)
@@ -59,10 +59,10 @@ pub returns-in_default : goal.returns-in_default
 returns-in_default c marks x h = refuse_7 h _ (counted (goal.at.returns-in_default c).After-splits_needed-needed) c.in_default.is
 
 pub returns-then-not-can_count : goal.returns-then-not-can_count
-returns-then-not-can_count c marks x h = refuse_16 h _ (counted (goal.at.returns-then-not-can_count c).After-splits_needed-needed) c.in-Splits.is c.can_count.ensures (search)
+returns-then-not-can_count c marks x h = refuse_16 h _ (counted (goal.at.returns-then-not-can_count c).After-splits_needed-needed) c.in-Some.is c.can_count.ensures (search)
 
 pub returns : goal.returns
-returns c marks x h = lands h _ (counted (goal.at.returns c).After-splits_needed-needed) c.in-Splits.is c.can_count.ensures (search)
+returns c marks x h = lands h _ (counted (goal.at.returns c).After-splits_needed-needed) c.in-Some.is c.can_count.ensures (search)
 
 pub returns-then-is_inverted-is_far_out : goal.returns-then-is_inverted-is_far_out
 returns-then-is_inverted-is_far_out c marks x h = search (rules, refuse_4)

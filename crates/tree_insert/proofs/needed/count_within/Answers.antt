@@ -1,33 +1,42 @@
-use Rattle.std.proofs.Common.{arith, rules, ◌<◌}
-use Rattle.memory.specs.Rows.{HasPlace, HasRect}
+use Rattle.std.proofs.Common.{arith, rules, inl, inr, refl, ◌∙◌, ◌<◌}
+use Rattle.memory.proofs.Laws.Chains.{passed}
+use Rattle.tree.proofs.Laws.Chains.{stands_has}
 use Rattle.tree_insert.proofs.Laws.SplitsNeeded.{tally_start, tally_here, tally_on, tally_over}
 use Rattle.tree_insert.proofs.needed.count_within.Goals as goal
-use Rattle.tree_insert.proofs.needed.count_within.Goals.{In-loop-left}
 
-here : (c : In-loop-left) →
-    HasPlace c.args.dots.now c.loop-left.at × HasRect c.args.rects.now c.loop-left.at
-here c =
-    tally_here c.loop-left.invariant c.requires c.loop-left-test.true
+pub loop-place-init : goal.loop-place-init
+loop-place-init c =
+    let new = c.new-place-items.ensures in
+    rw (c.into_iter-place-iterator.ensures.into_iter_gives, new.0, new.1, new.2)
+    (stands_has _ _ _ _ _ c.requires.stands, tt, refl, tally_start)
+
+pub rect_at-requires : goal.rect_at-requires
+rect_at-requires c = tally_here c.loop-place.invariant.3 c.requires (passed c.loop-place.invariant.2 c.in-Some.ensures.steps.1)
 
 pub overflow_add-count : goal.overflow_add-count
 overflow_add-count c =
     let fits : c.args.chain.count < 4294967296 = search rules in
-    omega (arith, c.loop-left.invariant.few, c.loop-left-test.true)
+    omega (arith, c.loop-place.invariant.3.few, c.in-Some.ensures.steps.1.some)
 
-pub loop-left-preserved : goal.loop-left-preserved
-loop-left-preserved c = tally_on c.loop-left.invariant c.loop-left-test.true c.rect_at-rect.ensures c.holds.ensures (grind arith) c.next_at-at.ensures
+pub loop-place-preserved-then-holds : goal.loop-place-preserved-then-holds
+loop-place-preserved-then-holds c =
+    let step = c.in-Some.ensures.steps in
+    let same = c.loop-place.invariant.2 in (
+      c.in-Some.ensures.goes.keeps,
+      tt,
+      step.0 ∙ same,
+      tally_on c.loop-place.invariant.3 (passed same step.1) c.rect_at.ensures c.holds.ensures (inl (c.if-holds.true, refl)),
+    )
 
-pub loop-left-init : goal.loop-left-init
-loop-left-init c = tally_start
-
-pub overflow_cast-place : goal.overflow_cast-place
-overflow_cast-place c = let p = here (goal.at.overflow_cast-place c).In-loop-left in omega arith
-
-pub rect_at-rect-requires : goal.rect_at-rect-requires
-rect_at-rect-requires c = (here (goal.at.rect_at-rect-requires c).In-loop-left).1
-
-pub next_at-at-requires : goal.next_at-at-requires
-next_at-at-requires c = (here (goal.at.next_at-at-requires c).In-loop-left).0
+pub loop-place-preserved : goal.loop-place-preserved
+loop-place-preserved c =
+    let step = c.in-Some.ensures.steps in
+    let same = c.loop-place.invariant.2 in (
+      c.in-Some.ensures.goes.keeps,
+      tt,
+      step.0 ∙ same,
+      tally_on c.loop-place.invariant.3 (passed same step.1) c.rect_at.ensures c.holds.ensures (inr (c.if-holds.false, refl)),
+    )
 
 pub returns : goal.returns
-returns c = tally_over c.loop-left.invariant c.loop-left-test.false
+returns c = tally_over c.loop-place.invariant.3 c.in-None.ensures.steps

@@ -1,9 +1,10 @@
--- A loop whose invariant is that the count so far and that of what is left are the whole count; the places left are counted.
+-- A loop whose invariant is that the count so far and that of what is left are the whole count.
+use Rattle.std.proofs.Common.{◌≡◌}
 use Rattle.tree_insert.proofs.Laws.SplitsNeeded.{Tallying}
 use Rattle.tree_insert.proofs.needed.count_within.Given as goal
 
-abbrev pub invariant-loop-left : goal.invariant-loop-left
-invariant-loop-left l = Tallying l.dots l.rects l.bounds l.initial.at l.initial.left l.at l.left l.count
-
-abbrev pub decreases-loop-left : goal.decreases-loop-left
-decreases-loop-left l = l.left
+abbrev pub invariant-loop-place : goal.invariant-loop-place
+invariant-loop-place l =
+    let rest = l.place-iterator in
+    goal.iterator-loop-place.can_next rest × goal.iterator-loop-place.is_finite rest × (rest.dots.now ≡ l.dots)
+    × Tallying l.dots l.rects l.bounds l.fn.chain.first l.fn.chain.count rest.at rest.left l.count

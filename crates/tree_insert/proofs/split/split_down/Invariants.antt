@@ -1,9 +1,10 @@
--- A loop whose invariant is that the insert continues; the splits left are counted.
+-- A loop whose invariant is that the insert continues.
+use Rattle.std.proofs.Common.{◌-◌}
 use Rattle.tree_insert.proofs.Laws.SplitDown.{SplittingDown}
 use Rattle.tree_insert.proofs.split.split_down.Given as goal
 
-abbrev pub invariant-loop-rest : goal.invariant-loop-rest
-invariant-loop-rest l = SplittingDown l.rect l.rects l.initial.nodes l.initial.dots l.initial.head l.initial.node l.initial.node_data l.initial.rest l.nodes l.dots l.head l.node l.node_data l.rest
-
-abbrev pub decreases-loop-rest : goal.decreases-loop-rest
-decreases-loop-rest l = l.rest
+abbrev pub invariant-loop : goal.invariant-loop
+invariant-loop l =
+    let leaf = l.fn.leaf in
+    SplittingDown l.rect l.rects l.initial.nodes l.initial.dots l.fn.group leaf.node leaf.node_data l.fn.splits
+    l.nodes l.dots l.head l.node l.node_data (l.fn.splits - l.counter)

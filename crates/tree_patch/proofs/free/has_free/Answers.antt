@@ -12,19 +12,19 @@ returns-then-at c = search free-short
 pub overflow_cast-at : goal.overflow_cast-at
 unfolding none
 overflow_cast-at c =
-    let there : HasNode c.args.nodes.now c.loop-passed.at = search walk_here in
+    let there : HasNode c.args.nodes.now c.loop.at = search walk_here in
     omega arith
 
 pub node_at-at-requires : goal.node_at-at-requires
 unfolding none
 node_at-at-requires c = search walk_here
 
-pub loop-passed-preserved : goal.loop-passed-preserved
+pub loop-preserved : goal.loop-preserved
 unfolding none
-loop-passed-preserved c = search walk-on
+loop-preserved c = search walk-on
 
-pub loop-passed-init : goal.loop-passed-init
-loop-passed-init c = walk_start
+pub loop-init : goal.loop-init
+loop-init c = walk_start
 
 pub returns : goal.returns
 returns c = search (rules, free-enough)

@@ -14,12 +14,12 @@ insert_dot-requires c =
 pub overflow_add-result : goal.overflow_add-result
 overflow_add-result c = omega (arith, next-number c.requires.1 c.requires.0.progress)
 
-pub returns-in-Refused : goal.returns-in-Refused
-returns-in-Refused c =
+pub returns-in-Err : goal.returns-in-Err
+returns-in-Err c =
     let inserted = c.insert_dot.ensures in
-    record { on = λ marks x g. absurd (lay_refused c.requires.1 c.dot_at-dot.ensures _ inserted c.in-Refused.is g) }
+    record { on = λ marks x g. absurd (lay_refused c.requires.1 c.dot_at-dot.ensures _ inserted c.in-Err.is g) }
 
-pub returns-in-Splits : goal.returns-in-Splits
-returns-in-Splits c =
+pub returns-in-Ok : goal.returns-in-Ok
+returns-in-Ok c =
     let inserted = c.insert_dot.ensures in
-    record { on = λ marks x g. lay_laid c.requires.1 c.dot_at-dot.ensures _ inserted c.in-Splits.is c.followed_by.ensures g }
+    record { on = λ marks x g. lay_laid c.requires.1 c.dot_at-dot.ensures _ inserted c.in-Ok.is c.followed_by.ensures g }

@@ -1,12 +1,9 @@
 -- The constant table is the matrix that the recursive rule makes. A loop whose invariant is that the dots of the rows above are laid.
-use Rattle.std.proofs.Common.{length, ◌-◌, ◌≡◌, ◌≤◌}
+use Rattle.std.proofs.Common.{◌≡◌}
 use Rattle.model.specs.Thresholds.{thresholds}
 use Rattle.tree_patch.specs.Laid.{Proceeds}
 use Rattle.tree_patch.proofs.lay.lay_rows.Given as goal
 
 abbrev pub invariant-loop-row : goal.invariant-loop-row
-invariant-loop-row l = (l.row ≤ l.height) × (length l.nodes ≡ length l.initial.nodes) × (length l.dots ≡ length l.initial.dots) × (length l.rects ≡ length l.initial.rects)
-    × Proceeds l.patch 0 0 l.initial.laid l.initial.nodes l.initial.dots l.initial.rects 0 l.row l.laid l.nodes l.dots l.rects × (l.table ≡ thresholds)
-
-abbrev pub decreases-loop-row : goal.decreases-loop-row
-decreases-loop-row l = l.height - l.row
+invariant-loop-row l =
+    Proceeds l.patch 0 0 l.initial.laid l.initial.nodes l.initial.dots l.initial.rects 0 l.row l.laid l.nodes l.dots l.rects × (l.table ≡ thresholds)

@@ -4,7 +4,7 @@ use Rattle.tree_patch.specs.declared.splits.Cell.{Cell}
 use Rattle.tree_patch.specs.Counts.{most_splits}
 use Rattle.tree_patch.proofs.Laws.CellCounts.{cell-none, branch-level, branch-group, branch-counted}
 use Rattle.tree_patch.proofs.Laws.CellCounts.{leaf-filled, leaf-counted_none, leaf-level, leaf-group, leaf-fits, leaf-counted}
-use Rattle.tree_patch.proofs.Laws.GroupCounts.{group-none, group-child, group-others, group-counted, group-fits}
+use Rattle.tree_patch.proofs.Laws.GroupCounts.{ahead-start, ahead-child, ahead-fits, ahead-next, ahead_end}
 use Rattle.tree_patch.proofs.splits.+cell_splits_group_splits.Goals as goal
 
 pub cell_splits-returns-then-laid-eq0 : goal.cell_splits-returns-then-laid-eq0
@@ -40,21 +40,24 @@ cell_splits-overflow_add-result t c =
 pub cell_splits-returns : goal.cell_splits-returns
 cell_splits-returns t c = search (leaf-counted, rules)
 
-pub group_splits-returns-then-left-eq0 : goal.group_splits-returns-then-left-eq0
-group_splits-returns-then-left-eq0 t c = search (group-none, rules)
+pub group_splits-loop-child-init : goal.group_splits-loop-child-init
+group_splits-loop-child-init t c = (omega arith, search (ahead-start, rules))
 
-pub group_splits-cell_splits-here-requires : goal.group_splits-cell_splits-here-requires
-group_splits-cell_splits-here-requires t c =
+pub group_splits-cell_splits-splits-requires : goal.group_splits-cell_splits-splits-requires
+group_splits-cell_splits-splits-requires t c =
     let lower = ap (λ (x : Cell). x.levels) c.child_cell-below.ensures in
-    (omega arith, search group-child)
+    let ahead = c.loop-child.invariant.1 in
+    (omega arith, ahead-child ahead c.loop-child.invariant.0 c.loop-child-test.true c.child_cell-below.ensures)
 
-pub group_splits-group_splits-requires : goal.group_splits-group_splits-requires
-group_splits-group_splits-requires t c = (omega arith, search group-others)
+pub group_splits-overflow_add-splits : goal.group_splits-overflow_add-splits
+group_splits-overflow_add-splits t c =
+    let ahead = c.loop-child.invariant.1 in
+    omega (arith, ahead-fits ahead c.loop-child.invariant.0 c.loop-child-test.true c.child_cell-below.ensures _ c.cell_splits-splits.ensures)
 
-pub group_splits-overflow_add-result : goal.group_splits-overflow_add-result
-group_splits-overflow_add-result t c =
-    let fits : c.cell_splits-here.result + c.group_splits.result ≤ most_splits = search group-fits in
-    omega arith
+pub group_splits-loop-child-preserved : goal.group_splits-loop-child-preserved
+group_splits-loop-child-preserved t c =
+    let ahead = c.loop-child.invariant.1 in
+    (omega arith, ahead-next ahead c.loop-child.invariant.0 c.loop-child-test.true c.child_cell-below.ensures _ c.cell_splits-splits.ensures)
 
 pub group_splits-returns : goal.group_splits-returns
-group_splits-returns t c = search (group-counted, rules)
+group_splits-returns t c = ahead_end c.loop-child.invariant.1 (omega arith)

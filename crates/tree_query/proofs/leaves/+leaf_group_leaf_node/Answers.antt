@@ -1,30 +1,36 @@
 use Rattle.std.proofs.Common.{arith, rules, ◌≤◌}
 use Rattle.tree.proofs.Laws.Trees.{node_in-row}
 use Rattle.tree_query.proofs.Laws.LeafNodes.{leaf-asks, leaf_gives, branch-level, branch-asks, branch_gives}
-use Rattle.tree_query.proofs.Laws.LeafGroups.{group_empty, group-child, group-others, group-leaves}
+use Rattle.tree_query.proofs.Laws.LeafGroups.{ahead-start, ahead-child, ahead-next, ahead_end}
 use Rattle.tree_query.proofs.leaves.+leaf_group_leaf_node.Goals as goal
 
-pub leaf_group-returns-then-left-eq0 : goal.leaf_group-returns-then-left-eq0
-leaf_group-returns-then-left-eq0 t c = search (group_empty, rules)
+-- ---- a group
+
+pub leaf_group-loop-child-init : goal.leaf_group-loop-child-init
+leaf_group-loop-child-init t c = search (ahead-start, rules)
 
 pub leaf_group-leaf_node-next-requires : goal.leaf_group-leaf_node-next-requires
-leaf_group-leaf_node-next-requires t c = (omega arith, search group-child)
+leaf_group-leaf_node-next-requires t c = (omega arith, search (ahead-child, rules))
 
-pub leaf_group-leaf_group-requires : goal.leaf_group-leaf_group-requires
-leaf_group-leaf_group-requires t c = (omega arith, search group-others)
+pub leaf_group-loop-child-preserved : goal.leaf_group-loop-child-preserved
+leaf_group-loop-child-preserved t c = search (ahead-next, rules)
 
 pub leaf_group-returns : goal.leaf_group-returns
-leaf_group-returns t c = search (group-leaves, rules)
+leaf_group-returns t c = search (ahead_end, rules)
+
+-- ---- a node
 
 pub leaf_node-node_at-words-requires : goal.leaf_node-node_at-words-requires
 leaf_node-node_at-words-requires t c = search (node_in-row, rules)
 
+-- a leaf
 pub leaf_node-keep_leaf-requires : goal.leaf_node-keep_leaf-requires
-leaf_node-keep_leaf-requires t c = (search, omega arith, omega arith, search leaf-asks)
+leaf_node-keep_leaf-requires t c = (omega arith, omega arith, search leaf-asks)
 
 pub leaf_node-returns-then-not-is_branch : goal.leaf_node-returns-then-not-is_branch
 leaf_node-returns-then-not-is_branch t c = search (leaf_gives, rules)
 
+-- a branch
 pub leaf_node-overflow_sub-levels : goal.leaf_node-overflow_sub-levels
 leaf_node-overflow_sub-levels t c = search (branch-level, rules)
 

@@ -8,8 +8,8 @@ overflow_cast-number c =
     let few : c.list_leaves-words.result ≤ 1000000 = search leaves-fit in
     omega arith
 
-pub returns-then-room-words : goal.returns-then-room-words
-returns-then-room-words c = search (rules, leaves-many)
+pub returns-then-row-words : goal.returns-then-row-words
+returns-then-row-words c = search (rules, leaves-many)
 
 pub returns : goal.returns
 returns c = search (rules, leaves-listed)

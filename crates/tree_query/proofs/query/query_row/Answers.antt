@@ -6,7 +6,10 @@ use Rattle.tree_query.proofs.query.query_row.Goals.{else-room-state, then-room-s
 
 pub returns : goal.returns
 returns c = queried_listed _ _ _ _ _ _ _ _ c.list_hits.ensures
-    (elim c.if-room-state.branch [ then-room-state+else-room-hits w ↦ room-counted _ _ _ _ _ _ _ w.count_hits-hits.ensures w.if-room-hits.false | else-room-state w ↦ room-live _ _ _ _ _ _ w.if-room-state.false ])
+    (elim c.if-room-state.branch [
+      | then-room-state+else-room-hits w ↦ room-counted _ _ _ _ _ _ _ w.count_hits-hits.ensures w.if-room-hits.false
+      | else-room-state w ↦ room-live _ _ _ _ _ _ w.if-room-state.false
+    ])
 
 pub returns-then-room-hits : goal.returns-then-room-hits
 returns-then-room-hits c = search (rules, queried_many)

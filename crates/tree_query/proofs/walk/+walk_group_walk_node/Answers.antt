@@ -1,55 +1,45 @@
-use Rattle.std.proofs.Common.{arith, rules, ℕ, ◌≤◌}
+use Rattle.std.proofs.Common.{arith, rules, ap, sym, Bool, eqb, ◌||◌, ◌∙◌, ◌≤◌}
 use Rattle.tree.proofs.Laws.Trees.{node_in-row}
-use Rattle.tree_query.specs.Walks.{GroupWalk}
 use Rattle.tree_query.proofs.Laws.Nodes.{leaf-asks, leaf_gives, branch-level, branch-asks, branch_gives}
-use Rattle.tree_query.proofs.Laws.Groups.{group-none, next_le, next-opens, next-asks, next_gives, group-node, group-rest, group_gives}
+use Rattle.tree_query.proofs.Laws.Groups.{ahead-start, ahead-child, ahead-next, ahead-skip, ahead_end}
 use Rattle.tree_query.proofs.walk.+walk_group_walk_node.Goals as goal
-use Rattle.tree_query.proofs.walk.+walk_group_walk_node.Goals.{walk_group-After-next_opened-open}
+use Rattle.tree_query.proofs.walk.+walk_group_walk_node.Goals.{walk_group-then-child-at, walk_group-else-child-at}
 
-from-open : (t : ℕ) (c : walk_group-After-next_opened-open t) →
-    let a = c.args in
-    GroupWalk a.query a.group.cell a.group.quadrants a.nodes.now a.dots.now a.rects.now a.room a.row.now a.found
-    a.group.first a.group.levels c.next_opened-open.result
-from-open t c =
-    next-asks _ _ _ _ _ _ _ _ _ _ _ c.next_opened-open.ensures c.requires
+-- ---- a group
 
-open-le : (t : ℕ) (c : walk_group-After-next_opened-open t) →
-    c.next_opened-open.result ≤ c.args.left
-open-le t c =
-    next_le c.args.group.quadrants.code c.args.left c.next_opened-open.ensures
-
-pub walk_group-returns-then-open-eq0 : goal.walk_group-returns-then-open-eq0
-walk_group-returns-then-open-eq0 t c = next_gives _ _ c.args.group.quadrants _ _ _ _ _ _ _ _ c.next_opened-open.ensures c.requires _ _
-    (group-none _ _ _ _ _ _ _ _ _ _ _ c.if-open-eq0.true)
-
-pub walk_group-overflow_sub-child : goal.walk_group-overflow_sub-child
-walk_group-overflow_sub-child t c = omega (arith, open-le t (goal.at.walk_group-overflow_sub-child t c).After-next_opened-open, c.requires.small)
+pub walk_group-loop-child-init : goal.walk_group-loop-child-init
+walk_group-loop-child-init t c = search (ahead-start, rules)
 
 pub walk_group-walk_node-met-requires : goal.walk_group-walk_node-met-requires
-walk_group-walk_node-met-requires t c = (omega arith, group-node c.if-open-eq0.false (from-open t (goal.at.walk_group-walk_node-met-requires t c).After-next_opened-open) _ c.split-below.ensures)
+walk_group-walk_node-met-requires t c = (omega arith, search (ahead-child, rules))
 
-pub walk_group-walk_group-requires : goal.walk_group-walk_group-requires
-walk_group-walk_group-requires t c = (
-  omega (arith, open-le t (goal.at.walk_group-walk_group-requires t c).After-next_opened-open, c.if-open-eq0.false),
-  group-rest c.if-open-eq0.false (from-open t (goal.at.walk_group-walk_group-requires t c).After-next_opened-open) c.split-below.ensures _ _ c.walk_node-met.ensures,
-)
+pub walk_group-loop-child-preserved : goal.walk_group-loop-child-preserved
+walk_group-loop-child-preserved t c =
+    let bit = ap (λ (b : Bool). eqb c.loop-child.child 0 || b) (sym c.at.ensures) in
+    let ahead = c.loop-child.invariant in
+    let more = c.loop-child-test.true in
+    elim c.if-child-at.branch [
+      | walk_group-then-child-at w ↦
+          rw (w.row-is, w.met-is) (ahead-next ahead more w.split-below.ensures (bit ∙ w.if-child-at.true) w.walk_node-met.ensures)
+      | walk_group-else-child-at w ↦ rw (w.row-is, w.met-is) (ahead-skip ahead more (bit ∙ w.if-child-at.false))
+    ]
 
 pub walk_group-returns : goal.walk_group-returns
-walk_group-returns t c =
-    let next = c.next_opened-open.ensures in
-    next_gives _ _ c.args.group.quadrants _ _ _ _ _ _ _ _ next c.requires _ _
-    (group_gives c.if-open-eq0.false (from-open t (goal.at.walk_group-returns t c).After-next_opened-open) c.split-below.ensures _ _ c.walk_node-met.ensures
-    (next-opens c.args.group.quadrants.code c.args.left next c.if-open-eq0.false) _ _ c.walk_group.ensures)
+walk_group-returns t c = search (ahead_end, rules)
+
+-- ---- a node
 
 pub walk_node-node_at-words-requires : goal.walk_node-node_at-words-requires
 walk_node-node_at-words-requires t c = search (node_in-row, rules)
 
+-- a leaf
 pub walk_node-walk_chain-requires : goal.walk_node-walk_chain-requires
 walk_node-walk_chain-requires t c = search (leaf-asks, rules)
 
 pub walk_node-returns-then-not-is_branch : goal.walk_node-returns-then-not-is_branch
 walk_node-returns-then-not-is_branch t c = search (leaf_gives, rules)
 
+-- a branch
 pub walk_node-overflow_sub-group : goal.walk_node-overflow_sub-group
 walk_node-overflow_sub-group t c = search (branch-level, rules)
 

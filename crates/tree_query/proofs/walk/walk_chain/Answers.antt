@@ -1,25 +1,29 @@
-use Rattle.std.proofs.Common.{arith, rules}
-use Rattle.tree_query.proofs.Laws.Chains.{rest-start, rest-turn, rest-place, rest-room, rest_end}
+use Rattle.std.proofs.Common.{refl, ◌∙◌}
+use Rattle.memory.proofs.Laws.Chains.{passed}
+use Rattle.tree_query.proofs.Laws.Chains.{has-chain, rest-start, rest-turn, rest-place, rest-room, rest_end}
 use Rattle.tree_query.proofs.walk.walk_chain.Goals as goal
 
-pub loop-left-init : goal.loop-left-init
-loop-left-init c = (rest-start _ _ _ _ c.requires.grows.hits, search rules)
-
-pub next_at-place-requires : goal.next_at-place-requires
-next_at-place-requires c = (rest-place _ _ _ _ c.loop-left.invariant.0 c.requires c.loop-left-test.true).0
+pub loop-place-init : goal.loop-place-init
+loop-place-init c =
+    let new = c.new-place-items.ensures in
+    rw (c.into_iter-place-iterator.ensures.into_iter_gives, new.0, new.1, new.2)
+    (has-chain c.requires, tt, refl, rest-start _ _ _ c.requires.grows.hits)
 
 pub dot_at-requires : goal.dot_at-requires
-dot_at-requires c = rest-place _ _ _ _ c.loop-left.invariant.0 c.requires c.loop-left-test.true
+dot_at-requires c = rest-place _ _ _ c.loop-place.invariant.3 (passed c.loop-place.invariant.2 c.in-Some.ensures.steps.1) c.requires
 
 pub list_dot-hits-requires : goal.list_dot-hits-requires
-list_dot-hits-requires c = rest-room _ _ _ _ c.loop-left.invariant.0 c.requires c.loop-left-test.true
+list_dot-hits-requires c = rest-room _ _ _ c.loop-place.invariant.3 (passed c.loop-place.invariant.2 c.in-Some.ensures.steps.1)
 
-pub loop-left-preserved : goal.loop-left-preserved
-loop-left-preserved c = (
-  rest-turn _ _ _ _ c.loop-left.invariant.0 c.loop-left-test.true
-      c.dot_at.ensures c.list_dot-hits.ensures.0 c.list_dot-hits.ensures.1 c.next_at-place.ensures,
-  search rules,
-)
+pub loop-place-preserved : goal.loop-place-preserved
+loop-place-preserved c =
+    let step = c.in-Some.ensures.steps in
+    let same = c.loop-place.invariant.2 in (
+      c.in-Some.ensures.goes.keeps,
+      tt,
+      step.0 ∙ same,
+      rest-turn _ _ _ c.loop-place.invariant.3 (passed same step.1) c.dot_at.ensures c.list_dot-hits.ensures.0 c.list_dot-hits.ensures.1,
+    )
 
 pub returns : goal.returns
-returns c = rest_end _ _ _ _ c.args.found c.loop-left.invariant.0 (omega arith)
+returns c = rest_end _ _ _ c.args.found c.loop-place.invariant.3 c.in-None.ensures.steps

@@ -1,16 +1,15 @@
--- The root's corners: far_edge on each axis.
-use Rattle.std.proofs.Common.{rules, w32}
-use Rattle.arithmetic.proofs.Laws.Linear.{got}
-use Rattle.geometry.proofs.Laws.Ranges.{root_axes}
+-- Each axis: the sum fits by Laws.Ranges.
+use Rattle.std.proofs.Common.{rules}
+use Rattle.geometry.proofs.Laws.Ranges.{root_axes, edge-fits}
 use Rattle.geometry.specs.Settings.{root_rect}
 use Rattle.geometry.proofs.settings.Settings.root_rect.Goals as goal
 
-pub far_edge-x2-requires : goal.far_edge-x2-requires
-far_edge-x2-requires c = search ((root_axes c.args.self c.requires).0, rules)
+pub overflow_add-result : goal.overflow_add-result
+overflow_add-result c = search (edge-fits, (root_axes _ c.requires).0, rules)
 
-pub far_edge-y2-requires : goal.far_edge-y2-requires
-far_edge-y2-requires c = search ((root_axes c.args.self c.requires).1, rules)
+pub overflow_add-result-2 : goal.overflow_add-result-2
+overflow_add-result-2 c = search (edge-fits, (root_axes _ c.requires).1, rules)
 
 pub returns : goal.returns
 unfolding root_rect
-returns c = search (got w32 c.far_edge-x2.type_inv c.far_edge-x2.ensures, got w32 c.far_edge-y2.type_inv c.far_edge-y2.ensures, rules)
+returns c = search (edge-fits, (root_axes _ c.requires).0, (root_axes _ c.requires).1, rules)
