@@ -2,23 +2,24 @@
 #![tactic(auto)]
 
 ghost use Rattle.std.specs.Prelude.{◌≡◌};
-ghost use Rattle.model.specs.Layout.{world};
 ghost use Rattle.model.specs.Calls.{Batch};
 ghost use Rattle.model.specs.Refusals.{refusal_number};
+ghost use Rattle.memory.specs.Lent.{held_mut, world_of, SameRows};
 ghost use Rattle.batch.specs.Answers.{batch_reply, batch_state, carried_out, carried_out_by};
 
 use batch_step::all::{Records, carry_out_all};
 use batch_step::begin;
+use memory::rows::RowsMut;
 use model::refusal::Refusal;
 use model::{Record, State};
 
 // The records of a lent row.
 #[derive(Clone, Copy)]
-pub struct Rows<'a> {
+pub struct LentRecords<'a> {
     pub rows: &'a [Record],
 }
 
-impl<'a> Records for Rows<'a> {
+impl<'a> Records for LentRecords<'a> {
     ghost list = { λ lent. lent.rows.now };
 
     fn count(&self) -> usize {
@@ -42,18 +43,18 @@ pub fn batch<R: Records>(
     records: &R,
     state: State,
     answers: &mut [u32],
-    nodes: &mut [u32],
-    dots: &mut [u32],
-    rects: &mut [i32],
+    rows: &mut RowsMut<'_>,
     marks: &mut [u8],
 ) -> Result<Batched, Refusal>
-    ensures { Batch (world state nodes.old dots.old rects.old marks.old) (R.list records.now)
-        answers.old (world (batch_state state result) nodes.new dots.new rects.new marks.new)
-        answers.new (batch_reply result) × (carried_out result ≡ carried_out_by (R.list records.now) (refusal_number result)) }
+    ensures same_rows { SameRows rows.old rows.new }
+    ensures obeys { Batch (world_of state (held_mut rows.old) marks.old) (R.list records.now)
+        answers.old (world_of (batch_state state result) (held_mut rows.new) marks.new)
+        answers.new (batch_reply result) }
+    ensures count { carried_out result ≡ carried_out_by (R.list records.now) (refusal_number result) }
 {
     let count = records.count();
-    begin(count, answers.len(), state, nodes, dots, rects, marks)?;
-    let after = carry_out_all(records, state, answers, nodes, dots, rects);
+    begin(count, answers.len(), state, rows.shared(), marks)?;
+    let after = carry_out_all(records, state, answers, rows);
     Ok(Batched {
         count,
         state: after,

@@ -1,11 +1,13 @@
 // All records of a batch, one after another.
 ghost use Rattle.std.specs.Prelude.{◌≡◌, List, ◌<◌, ◌≤◌, length, get_or};
 ghost use Rattle.model.specs.declared.Record.{Record};
+ghost use Rattle.memory.specs.Lent.{held_mut, SameRows};
 ghost use Rattle.tree.specs.Operations.{IsTree};
 ghost use Rattle.batch_step.specs.Steps.{no_record};
 ghost use Rattle.batch_step.specs.Runs.{AllCarriedOut};
 
 use crate::one;
+use memory::rows::RowsMut;
 use model::{Record, State};
 
 // The records of a batch, in whatever form they are lent.
@@ -27,17 +29,15 @@ pub fn carry_out_all<R: Records>(
     records: &R,
     state: State,
     answers: &mut [u32],
-    nodes: &mut [u32],
-    dots: &mut [u32],
-    rects: &mut [i32],
+    rows: &mut RowsMut<'_>,
 ) -> State
-    requires { IsTree state nodes.old dots.old rects.old × (length (R.list records.now) ≤ length answers.old) }
-    ensures { AllCarriedOut (R.list records.now) state answers.old nodes.old dots.old rects.old result
-        answers.new nodes.new dots.new rects.new }
+    requires { IsTree state (held_mut rows.old) × (length (R.list records.now) ≤ length answers.old) }
+    ensures same_rows { SameRows rows.old rows.new }
+    ensures carried_out { AllCarriedOut (R.list records.now) state answers.old (held_mut rows.old) result answers.new (held_mut rows.new) }
 {
     let mut after = state;
     for i in 0..records.count() {
-        after = one(after, records.at(i), i, answers, nodes, dots, rects);
+        after = one(after, records.at(i), i, answers, rows);
     }
     after
 }

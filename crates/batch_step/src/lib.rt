@@ -9,9 +9,11 @@ ghost use Rattle.model.specs.declared.Kind.TheVariants as kind;
 ghost use Rattle.model.specs.Calls.{carry_out, refused_word, yes_no};
 ghost use Rattle.model.specs.Refusals.{number_of, refusal_number};
 ghost use Rattle.model.specs.Answers.{change_reply, change_state, yes_no_reply, yes_no_state};
+ghost use Rattle.memory.specs.Lent.{held, held_mut, SameRows};
 ghost use Rattle.tree.specs.Operations.{IsTree};
 ghost use Rattle.batch_step.specs.Steps.{record_of, reply_word, RecordCarriedOut, Stepped, Begun};
 
+use memory::rows::{Rows, RowsMut};
 use model::answers::Changed;
 use model::refusal::Refusal;
 use model::{Dot, Kind, Record, State};
@@ -68,64 +70,47 @@ fn said_record(state: State, answer: Result<Option<State>, Refusal>) -> Recorded
 }
 
 // An insert, with its answer word.
-fn insert_record(
-    state: State,
-    nodes: &mut [u32],
-    dots: &mut [u32],
-    rects: &mut [i32],
-    dot: Dot,
-) -> Recorded
-    requires { IsTree state nodes.old dots.old rects.old }
-    ensures { RecordCarriedOut (carry_out (record_of kind.Insert dot)) state nodes.old dots.old rects.old result.state
-        nodes.new dots.new rects.new result.word }
+fn insert_record(state: State, rows: &mut RowsMut<'_>, dot: Dot) -> Recorded
+    requires { IsTree state (held_mut rows.old) }
+    ensures same_rows { SameRows rows.old rows.new }
+    ensures carried_out { RecordCarriedOut (carry_out (record_of kind.Insert dot)) state (held_mut rows.old) result.state (held_mut rows.new) result.word }
 {
-    let answer = insert_dot(state, nodes, dots, rects, dot);
+    let answer = insert_dot(state, rows, dot);
     splits_record(state, answer)
 }
 
 // A remove, with its answer word.
-fn remove_record(
-    state: State,
-    nodes: &mut [u32],
-    dots: &mut [u32],
-    rects: &mut [i32],
-    dot: Dot,
-) -> Recorded
-    requires { IsTree state nodes.old dots.old rects.old }
-    ensures { RecordCarriedOut (carry_out (record_of kind.Remove dot)) state nodes.old dots.old rects.old result.state
-        nodes.new dots.new rects.new result.word }
+fn remove_record(state: State, rows: &mut RowsMut<'_>, dot: Dot) -> Recorded
+    requires { IsTree state (held_mut rows.old) }
+    ensures same_rows { SameRows rows.old rows.new }
+    ensures carried_out { RecordCarriedOut (carry_out (record_of kind.Remove dot)) state (held_mut rows.old) result.state (held_mut rows.new) result.word }
 {
-    let answer = remove_dot(state, nodes, dots, rects, dot.id, dot.rect);
+    let answer = remove_dot(state, rows, dot.id, dot.rect);
     said_record(state, answer)
 }
 
 // A cleanup, with its answer word; its record's dot is not looked at.
-fn cleanup_record(state: State, nodes: &mut [u32], dots: &[u32], rects: &[i32]) -> Recorded
-    requires { IsTree state nodes.old dots.now rects.now }
-    ensures { (dot : Dot) → RecordCarriedOut (carry_out (record_of kind.Cleanup dot)) state nodes.old dots.now rects.now
-        result.state nodes.new dots.now rects.now result.word }
+fn cleanup_record(state: State, rows: &mut RowsMut<'_>) -> Recorded
+    requires { IsTree state (held_mut rows.old) }
+    ensures same_rows { SameRows rows.old rows.new }
+    ensures carried_out { (dot : Dot) → RecordCarriedOut (carry_out (record_of kind.Cleanup dot)) state (held_mut rows.old)
+        result.state (held_mut rows.new) result.word }
 {
-    let answer = cleanup_tree(state, nodes);
+    let answer = cleanup_tree(state, rows.nodes);
     said_record(state, answer)
 }
 
 // A record is the single operation of its kind.
-fn carry_out(
-    state: State,
-    nodes: &mut [u32],
-    dots: &mut [u32],
-    rects: &mut [i32],
-    record: Record,
-) -> Recorded
-    requires { IsTree state nodes.old dots.old rects.old }
-    ensures { RecordCarriedOut (carry_out «record») state nodes.old dots.old rects.old result.state
-        nodes.new dots.new rects.new result.word }
+fn carry_out(state: State, rows: &mut RowsMut<'_>, record: Record) -> Recorded
+    requires { IsTree state (held_mut rows.old) }
+    ensures same_rows { SameRows rows.old rows.new }
+    ensures carried_out { RecordCarriedOut (carry_out «record») state (held_mut rows.old) result.state (held_mut rows.new) result.word }
 {
     let dot = record.dot;
     match record.kind {
-        Kind::Insert => insert_record(state, nodes, dots, rects, dot),
-        Kind::Remove => remove_record(state, nodes, dots, rects, dot),
-        Kind::Cleanup => cleanup_record(state, nodes, dots, rects),
+        Kind::Insert => insert_record(state, rows, dot),
+        Kind::Remove => remove_record(state, rows, dot),
+        Kind::Cleanup => cleanup_record(state, rows),
         Kind::Unknown => Recorded {
             word: refused_word(Refusal::UnknownKind),
             state,
@@ -139,15 +124,13 @@ pub fn one(
     record: Record,
     i: usize,
     answers: &mut [u32],
-    nodes: &mut [u32],
-    dots: &mut [u32],
-    rects: &mut [i32],
+    rows: &mut RowsMut<'_>,
 ) -> State
-    requires { IsTree state nodes.old dots.old rects.old × (i < length answers.old) }
-    ensures { Stepped «record» i state answers.old nodes.old dots.old rects.old result
-        answers.new nodes.new dots.new rects.new }
+    requires { IsTree state (held_mut rows.old) × (i < length answers.old) }
+    ensures same_rows { SameRows rows.old rows.new }
+    ensures stepped { Stepped «record» i state answers.old (held_mut rows.old) result answers.new (held_mut rows.new) }
 {
-    let done = carry_out(state, nodes, dots, rects, record);
+    let done = carry_out(state, rows, record);
     answers[i] = done.word;
     // The settings are those before, so that a batch copies them once.
     state.followed_by(done.state)
@@ -158,15 +141,13 @@ pub fn begin(
     records: usize,
     words: usize,
     state: State,
-    nodes: &[u32],
-    dots: &[u32],
-    rects: &[i32],
+    rows: Rows<'_>,
     marks: &mut [u8],
 ) -> Result<(), Refusal>
-    ensures { Begun records words state nodes.now dots.now rects.now marks.old marks.new (refusal_number result) }
+    ensures { Begun records words state (held rows.entry) marks.old marks.new (refusal_number result) }
 {
     if records != words {
         return Err(Refusal::BadLengths);
     }
-    check(state, nodes, dots, rects, marks)
+    check(state, rows, marks)
 }

@@ -1,25 +1,19 @@
 // Ask: what the insert of a dot would do, and a ticket for it.
-ghost use Rattle.model.specs.Layout.{world};
 ghost use Rattle.model.specs.Tickets.{Ask};
 ghost use Rattle.model.specs.Answers.{ask_reply};
+ghost use Rattle.memory.specs.Lent.{held, world_of};
 
+use memory::rows::Rows;
 use model::answers::Asked;
 use model::refusal::Refusal;
 use model::{Dot, State};
 use tree_check::check::check;
 use tree_insert::ask::ask_dot;
 
-pub fn ask(
-    state: State,
-    nodes: &[u32],
-    dots: &[u32],
-    rects: &[i32],
-    marks: &mut [u8],
-    dot: Dot,
-) -> Result<Asked, Refusal>
-    ensures { Ask (world state nodes.now dots.now rects.now marks.old) dot
-        (world state nodes.now dots.now rects.now marks.new) (ask_reply result) }
+pub fn ask(state: State, rows: Rows<'_>, marks: &mut [u8], dot: Dot) -> Result<Asked, Refusal>
+    ensures { Ask (world_of state (held rows.entry) marks.old) dot
+        (world_of state (held rows.entry) marks.new) (ask_reply result) }
 {
-    check(state, nodes, dots, rects, marks)?;
-    ask_dot(state, nodes, dots, rects, dot)
+    check(state, rows, marks)?;
+    ask_dot(state, rows, dot)
 }

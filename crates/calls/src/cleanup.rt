@@ -3,11 +3,13 @@ ghost use Rattle.model.specs.Layout.{world};
 ghost use Rattle.model.specs.Calls.{Cleanup};
 ghost use Rattle.model.specs.Answers.{yes_no_reply, yes_no_state};
 
+use memory::rows::Rows;
 use model::State;
 use model::refusal::Refusal;
 use tree_check::check::check;
 use tree_cleanup::cleanup_tree;
 
+// Dots and rectangles are lent for reading only, as the host lends them: no RowsMut.
 pub fn cleanup(
     state: State,
     nodes: &mut [u32],
@@ -18,6 +20,6 @@ pub fn cleanup(
     ensures { Cleanup (world state nodes.old dots.now rects.now marks.old)
         (world (yes_no_state state result) nodes.new dots.now rects.now marks.new) (yes_no_reply result) }
 {
-    check(state, nodes, dots, rects, marks)?;
+    check(state, Rows { nodes, dots, rects }, marks)?;
     cleanup_tree(state, nodes)
 }

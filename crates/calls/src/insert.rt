@@ -1,8 +1,9 @@
 // Insert: a dot goes to the leaf that it routes to.
-ghost use Rattle.model.specs.Layout.{world};
 ghost use Rattle.model.specs.Calls.{Insert};
 ghost use Rattle.model.specs.Answers.{change_reply, change_state};
+ghost use Rattle.memory.specs.Lent.{held_mut, world_of, SameRows};
 
+use memory::rows::RowsMut;
 use model::answers::Changed;
 use model::refusal::Refusal;
 use model::{Dot, State};
@@ -11,15 +12,14 @@ use tree_insert::insert_dot;
 
 pub fn insert(
     state: State,
-    nodes: &mut [u32],
-    dots: &mut [u32],
-    rects: &mut [i32],
+    rows: &mut RowsMut<'_>,
     marks: &mut [u8],
     dot: Dot,
 ) -> Result<Changed, Refusal>
-    ensures { Insert (world state nodes.old dots.old rects.old marks.old) dot
-        (world (change_state state result) nodes.new dots.new rects.new marks.new) (change_reply result) }
+    ensures same_rows { SameRows rows.old rows.new }
+    ensures obeys { Insert (world_of state (held_mut rows.old) marks.old) dot
+        (world_of (change_state state result) (held_mut rows.new) marks.new) (change_reply result) }
 {
-    check(state, nodes, dots, rects, marks)?;
-    insert_dot(state, nodes, dots, rects, dot)
+    check(state, rows.shared(), marks)?;
+    insert_dot(state, rows, dot)
 }

@@ -31,7 +31,7 @@ fn first_met(touching: bool, first: i32, size: u32, a: i32) -> u64
     steps(arithmetic::difference(a, first) - i64::from(touching), size)
 }
 
-// How many windows begin before b, or at it where a touch is enough.
+// How many windows begin before b, or at it where a touch is enough: a ceiling, where the one above is a floor.
 fn past_met(touching: bool, first: i32, size: u32, b: i32) -> u64
     requires { 1 ≤ size }
     ensures { result ≡ past_met touching first size b }

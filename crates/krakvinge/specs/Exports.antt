@@ -18,6 +18,7 @@ use Rattle.model.specs.Patch.{patch_fits, LayPatch}
 use Rattle.model.specs.Tickets.{Ask, Place}
 use Rattle.model.specs.declared.refusal.Refusal.{Refusal}
 use Rattle.model.specs.Answers.{make_reply, make_state}
+use Rattle.memory.specs.Lent.{holding}
 use Rattle.tree_check.specs.Checks.{Checked}
 use Rattle.host_rows.specs.Rows.{settings_in, state_in, rows_fit}
 use Rattle.host_rows.specs.Tickets.{ticket_in, ticket_row, ticket_fits}
@@ -124,4 +125,4 @@ pub record Makes (row nodes dots : List ℕ) (rects : List ℤ) (marks row' node
 
 pub record Checks (row nodes dots : List ℕ) (rects : List ℤ) (marks marks' : List ℕ) (result : ℕ) : Type 0 where
   pub other_length : (length row ≡ 12 → ⊥) → (result ≡ 1) × (marks' ≡ marks)
-  pub carried_out : length row ≡ 12 → Checked (state_in row) nodes dots rects marks marks' result
+  pub carried_out : length row ≡ 12 → Checked (state_in row) (holding nodes dots rects) marks marks' result

@@ -11,6 +11,7 @@ use geometry::aabb::AABB;
 use grid::grid::Grid;
 use host_rows::answers::{answer_out, refused};
 use host_rows::rows::{rows_fit, state_in};
+use memory::rows::Rows;
 use model::Window;
 use model::refusal::Refusal;
 use tree_check::check::check;
@@ -43,9 +44,7 @@ pub extern "C" fn krakvinge_query(
     let rect = AABB { x1, y1, x2, y2 };
     let done = query(
         before,
-        nodes,
-        dots,
-        rects,
+        Rows { nodes, dots, rects },
         marks,
         Window { rect, inks },
         ids,
@@ -72,7 +71,7 @@ pub extern "C" fn krakvinge_collect_ids(
         return refused(Refusal::BadLengths);
     }
     let before = state_in(state);
-    let done = collect_ids(before, nodes, dots, rects, marks, ids);
+    let done = collect_ids(before, Rows { nodes, dots, rects }, marks, ids);
     answer_out(answer, done)
 }
 
@@ -95,7 +94,7 @@ pub extern "C" fn krakvinge_all(
         return refused(Refusal::BadLengths);
     }
     let before = state_in(state);
-    let done = all(before, nodes, dots, rects, marks, ids);
+    let done = all(before, Rows { nodes, dots, rects }, marks, ids);
     answer_out(answer, done)
 }
 
@@ -118,7 +117,7 @@ pub extern "C" fn krakvinge_leaves(
         return refused(Refusal::BadLengths);
     }
     let before = state_in(state);
-    let done = leaves(before, nodes, dots, rects, marks, row);
+    let done = leaves(before, Rows { nodes, dots, rects }, marks, row);
     answer_out(answer, done)
 }
 
@@ -140,7 +139,7 @@ pub extern "C" fn krakvinge_references(
         return refused(Refusal::BadLengths);
     }
     let before = state_in(state);
-    let done = references(before, nodes, dots, rects, marks);
+    let done = references(before, Rows { nodes, dots, rects }, marks);
     answer_out(answer, done)
 }
 
@@ -159,7 +158,7 @@ pub extern "C" fn krakvinge_check(
         return refused(Refusal::BadLengths);
     }
     let before = state_in(state);
-    match check(before, nodes, dots, rects, marks) {
+    match check(before, Rows { nodes, dots, rects }, marks) {
         Ok(()) => 0,
         Err(refusal) => u64::from(refusal.number()),
     }
@@ -199,6 +198,6 @@ pub extern "C" fn krakvinge_grid(
         columns,
         rows,
     };
-    let done = grid_report(before, nodes, dots, rects, marks, grid, counts);
+    let done = grid_report(before, Rows { nodes, dots, rects }, marks, grid, counts);
     answer_out(answer, done)
 }

@@ -8,6 +8,7 @@ use batch_step::all::Records;
 use host_rows::answers::refused;
 use host_rows::records::{batch_fits, record_in};
 use host_rows::rows::{state_in, state_out};
+use memory::rows::RowsMut;
 use model::Record;
 use model::refusal::Refusal;
 
@@ -49,7 +50,8 @@ pub extern "C" fn krakvinge_batch(
     }
     let before = state_in(state);
     let lent = WordRecords { words: records };
-    match batch(&lent, before, answers, nodes, dots, rects, marks) {
+    let mut rows = RowsMut { nodes, dots, rects };
+    match batch(&lent, before, answers, &mut rows, marks) {
         Err(refusal) => refused(refusal),
         Ok(done) => {
             state_out(state, done.state);

@@ -9,6 +9,7 @@ use calls::remove::remove;
 use geometry::aabb::AABB;
 use host_rows::answers::{change_out, make_out, refused, yes_no_out};
 use host_rows::rows::{rows_fit, settings_in, state_in};
+use memory::rows::RowsMut;
 use model::Dot;
 use model::refusal::Refusal;
 
@@ -28,7 +29,8 @@ pub extern "C" fn krakvinge_make(
         return refused(Refusal::BadLengths);
     }
     let settings = settings_in(state);
-    let done = make(settings, nodes, dots, rects, marks);
+    let mut rows = RowsMut { nodes, dots, rects };
+    let done = make(settings, &mut rows, marks);
     make_out(state, done)
 }
 
@@ -57,7 +59,8 @@ pub extern "C" fn krakvinge_insert(
     }
     let before = state_in(state);
     let rect = AABB { x1, y1, x2, y2 };
-    let done = insert(before, nodes, dots, rects, marks, Dot { id, rect, ink });
+    let mut rows = RowsMut { nodes, dots, rects };
+    let done = insert(before, &mut rows, marks, Dot { id, rect, ink });
     change_out(state, answer, done)
 }
 
@@ -85,7 +88,8 @@ pub extern "C" fn krakvinge_remove(
     }
     let before = state_in(state);
     let rect = AABB { x1, y1, x2, y2 };
-    let done = remove(before, nodes, dots, rects, marks, id, rect);
+    let mut rows = RowsMut { nodes, dots, rects };
+    let done = remove(before, &mut rows, marks, id, rect);
     yes_no_out(state, answer, done)
 }
 

@@ -5,6 +5,7 @@ ghost use Rattle.krakvinge.specs.Exports.{lent, LaysPatch};
 use calls::patch::patch;
 use host_rows::answers::{change_out, refused};
 use host_rows::rows::{rows_fit, state_in};
+use memory::rows::RowsMut;
 use model::patch::Patch;
 use model::refusal::Refusal;
 
@@ -44,6 +45,7 @@ pub extern "C" fn krakvinge_patch(
         return refused(Refusal::BadLengths);
     }
     let before = state_in(state);
-    let done = patch(before, nodes, dots, rects, marks, laying);
+    let mut rows = RowsMut { nodes, dots, rects };
+    let done = patch(before, &mut rows, marks, laying);
     change_out(state, answer, done)
 }

@@ -8,6 +8,7 @@ use geometry::aabb::AABB;
 use host_rows::answers::{ask_out, change_out, refused};
 use host_rows::rows::state_in;
 use host_rows::tickets::{ticket_fits, ticket_in};
+use memory::rows::{Rows, RowsMut};
 use model::Dot;
 use model::refusal::Refusal;
 
@@ -38,7 +39,12 @@ pub extern "C" fn krakvinge_ask(
     }
     let before = state_in(state);
     let rect = AABB { x1, y1, x2, y2 };
-    let done = ask(before, nodes, dots, rects, marks, Dot { id, rect, ink });
+    let done = ask(
+        before,
+        Rows { nodes, dots, rects },
+        marks,
+        Dot { id, rect, ink },
+    );
     ask_out(ticket, answer, done)
 }
 
@@ -62,6 +68,7 @@ pub extern "C" fn krakvinge_place(
     }
     let before = state_in(state);
     let given = ticket_in(ticket);
-    let done = place(before, nodes, dots, rects, marks, given);
+    let mut rows = RowsMut { nodes, dots, rects };
+    let done = place(before, &mut rows, marks, given);
     change_out(state, answer, done)
 }

@@ -2,14 +2,16 @@
 ghost use Rattle.std.specs.Prelude.{◌≡◌, true, cond, ◌+◌, ◌*◌, ◌≤◌, ◌<◌, eqb, length};
 ghost use Rattle.geometry.specs.Settings.{in_range};
 ghost use Rattle.model.specs.Shapes.{fresh};
-ghost use Rattle.model.specs.Layout.{dots_for, none, world, groups_in, places_in, layout};
+ghost use Rattle.model.specs.Layout.{dots_for, none, groups_in, places_in, layout};
 ghost use Rattle.memory.specs.Lengths.{lengths_fit};
+ghost use Rattle.memory.specs.Lent.{held_mut, world_of, SameRows};
 ghost use Rattle.memory.specs.Fresh.{fresh_node, fresh_next, fresh_state, FreshNodes, FreshPlaces};
 
 use crate::lengths::{groups_in, places_in};
 use crate::marks::clear_marks;
 use crate::node::{Node, set_node};
 use crate::places::{set_dot, set_next};
+use crate::rows::RowsMut;
 use geometry::settings::Settings;
 use model::{Dot, State};
 
@@ -56,7 +58,7 @@ fn make_places(dots: &mut [u32], rects: &mut [i32], places: usize)
     ensures { FreshPlaces places dots.new rects.new }
 {
     for place in 0..places {
-        set_dot(dots, rects, place, Dot::zero());
+        set_dot(dots, rects, place, Dot::default());
         set_next(dots, place, fresh_next(places, place));
     }
 }
@@ -84,21 +86,18 @@ fn fresh_state(settings: Settings, groups: usize, places: usize) -> State
 }
 
 // Writes the fresh tree, whatever the rows held; its state.
-pub fn make_fresh(
-    settings: Settings,
-    nodes: &mut [u32],
-    dots: &mut [u32],
-    rects: &mut [i32],
-    marks: &mut [u8],
-) -> State
-    requires { (lengths_fit (length nodes.old) (length dots.old) (length rects.old) (length marks.old) ≡ true) × (in_range settings ≡ true) }
-    ensures { world result nodes.new dots.new rects.new marks.new ≡ layout
-        (fresh settings (groups_in (length nodes.old)) (places_in (length dots.old))) }
+pub fn make_fresh(settings: Settings, rows: &mut RowsMut<'_>, marks: &mut [u8]) -> State
+    requires { (lengths_fit (length rows.old.nodes.now) (length rows.old.dots.now) (length rows.old.rects.now) (length marks.old) ≡ true)
+        × (in_range settings ≡ true) }
+    ensures same_rows { SameRows rows.old rows.new }
+    ensures fresh { world_of result (held_mut rows.new) marks.new ≡ layout
+        (fresh settings (groups_in (length rows.old.nodes.now)) (places_in (length rows.old.dots.now))) }
 {
-    let groups = groups_in(nodes);
-    let places = places_in(dots);
-    make_nodes(nodes, groups);
-    make_places(dots, rects, places);
+    let given = rows.shared();
+    let groups = groups_in(given.nodes);
+    let places = places_in(given.dots);
+    make_nodes(rows.nodes, groups);
+    make_places(rows.dots, rows.rects, places);
     clear_marks(marks);
     fresh_state(settings, groups, places)
 }

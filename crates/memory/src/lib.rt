@@ -8,3 +8,4 @@ pub mod lengths;
 pub mod marks;
 pub mod node;
 pub mod places;
+pub mod rows;

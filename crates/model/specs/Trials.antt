@@ -11,7 +11,8 @@ use Rattle.model.specs.Sums.{indicator, changed}
 use Rattle.model.specs.Dots.{good_ink, shows, all_inks, is_hit, matches}
 use Rattle.geometry.specs.Rectangles.{flat, intersects, middle, within, inverted, near, far_out}
 use Rattle.geometry.specs.Settings.{root_of, W, bits_within, bit_length, halvings, D, contains, root_rect}
-use Rattle.geometry.specs.Cells.{route_cell, may_divide, root_cell, root_data, child_centre, quarter_cell, child_cell, child_data, quadrant, route, both_tests, opens}
+use Rattle.geometry.specs.Cells.{route_cell, may_divide, root_cell, root_data, child_centre, quarter_cell, child_cell, child_data, quadrant}
+use Rattle.geometry.specs.Cells.{route, both_tests, opens}
 use Rattle.model.specs.Shapes.{Shape, fresh, inserted, splits_made, splits_needed, removed, found_by, cleaned, cleans}
 use Rattle.model.specs.Shapes.{listed, opens_for, all_ids, leaves as leaf_row, leaf_number, references as dot_count}
 use Rattle.model.specs.Layout.{none, branch_mark, layout}
@@ -310,7 +311,8 @@ pub all_pass : pass_all table ≡ true
 unfolding flat intersects middle within inverted near far_out W bits_within bit_length halvings D contains root_rect
     root_cell root_data child_centre quarter_cell child_cell child_data quadrant route_cell both_tests opens may_divide
     fresh inserted splits_made splits_needed removed found_by cleaned cleans listed opens_for all_ids
-    largest_count insert_verdict insert_rule remove_rule cleanup_rule query_rule collect_ids_rule all_rule good_ink shows bit_at is_hit matches indicator changed max_z min_z
+    largest_count insert_verdict insert_rule remove_rule cleanup_rule query_rule collect_ids_rule all_rule
+    good_ink shows bit_at is_hit matches indicator changed max_z min_z
 all_pass = refl
 
 pub further-pass : pass_all further ≡ true

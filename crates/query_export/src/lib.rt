@@ -2,6 +2,7 @@
 #![tactic(auto)]
 
 ghost use Rattle.std.specs.Prelude.{◌≡◌, length};
+ghost use Rattle.memory.specs.Lent.{holding};
 ghost use Rattle.tree.specs.Operations.{IsTree, HasDots};
 ghost use Rattle.host_rows.specs.Rows.{state_in, rect_of};
 ghost use Rattle.query_export.specs.Answers.{Lists, ListsAll};
@@ -9,6 +10,7 @@ ghost use Rattle.query_export.specs.Answers.{Lists, ListsAll};
 use geometry::aabb::AABB;
 use host_rows::answers::answer_out;
 use host_rows::rows::state_in;
+use memory::rows::Rows;
 use model::Window;
 use tree_all::all_row;
 use tree_query::query::query_row;
@@ -28,13 +30,18 @@ pub extern "C" fn krakvinge_query_unchecked(
     ids: &mut [u32],
     answer: &mut [u32],
 ) -> u64
-    requires { (length state.now ≡ 12) × (length answer.old ≡ 2) × IsTree (state_in state.now) nodes.now dots.now rects.now }
+    requires { (length state.now ≡ 12) × (length answer.old ≡ 2) × IsTree (state_in state.now) (holding nodes.now dots.now rects.now) }
     ensures { Lists (record { rect = rect_of x1 y1 x2 y2; inks = inks }) state.now nodes.now dots.now
         rects.now ids.old answer.old ids.new answer.new result }
 {
     let before = state_in(state);
     let rect = AABB { x1, y1, x2, y2 };
-    let done = query_row(before, nodes, dots, rects, Window { rect, inks }, ids);
+    let done = query_row(
+        before,
+        Rows { nodes, dots, rects },
+        Window { rect, inks },
+        ids,
+    );
     answer_out(answer, done)
 }
 

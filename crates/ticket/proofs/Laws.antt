@@ -4,6 +4,7 @@
 --     Report       a later line of gridreport, case by case; the lines of its report
 --     Fixed        the statements fix every word and every byte
 --     Room         what the room for an answer is enough for
+--     Workspace    a workspace of the same loans
 --     Turns        a turn, case by case, and lines one after another
 --     TurnsFixed   what a turn leaves open
 pub mod Replies
@@ -13,3 +14,4 @@ pub mod Fixed
 pub mod Room
 pub mod Turns
 pub mod TurnsFixed
+pub mod Workspace

@@ -2,14 +2,18 @@
 #![tactic(auto)]
 
 ghost use Rattle.std.specs.Prelude.{◌≡◌, ◌+◌, ◌*◌, ◌≤◌, length};
-ghost use Rattle.model.specs.Layout.{world};
 ghost use Rattle.lines.specs.Reading.{output, Written};
-ghost use Rattle.ticket.specs.Ticket.{Called, refusal_line};
+ghost use Rattle.memory.specs.Lent.{held_mut, world_of, SameRows};
+ghost use Rattle.ticket.specs.Ticket.{Called, CleanupLine, QueryLine, refusal_line};
+ghost use Rattle.ticket.specs.Turns as turns;
+ghost use Rattle.ticket.specs.Turns.{output_of};
+ghost use Rattle.ticket.specs.Workspace.{lent_in, SameWorkspace};
 
 use lines::answer::answer_one;
 use lines::line::Call;
+use memory::rows::RowsMut;
 use model::{Dot, State, Window};
-use ticket::Step;
+use ticket::{Step, Workspace};
 use ticket_changes::{answer_cleanup, answer_insert, answer_remove};
 use ticket_queries::answer_listing;
 
@@ -23,35 +27,62 @@ pub fn answer_nine(state: State, out: &mut [u8]) -> Step
     Step { state, next }
 }
 
-// The call that a line is: an insert without an ink has ink 0, and a query asks for all inks.
-pub fn answer_call(
+// A cleanup, of rows that are lent for changes.
+fn clean_up(state: State, rows: &mut RowsMut<'_>, marks: &mut [u8], out: &mut [u8]) -> Step
+    requires { 24 ≤ length out.old }
+    ensures same_rows { SameRows rows.old rows.new }
+    ensures next_in_bounds { result.next ≤ length out.new }
+    ensures cleanup_line { CleanupLine (world_of state (held_mut rows.old) marks.old)
+        (world_of result.state (held_mut rows.new) marks.new) (output out.old out.new result.next) }
+{
+    let dots = &mut *rows.dots;
+    let rects = &mut *rows.rects;
+    answer_cleanup(state, rows.nodes, dots, rects, marks, out)
+}
+
+// A query, of the same.
+fn list(
     state: State,
-    nodes: &mut [u32],
-    dots: &mut [u32],
-    rects: &mut [i32],
+    rows: &mut RowsMut<'_>,
     marks: &mut [u8],
-    call: Call,
+    window: Window,
     row: &mut [u32],
     out: &mut [u8],
 ) -> Step
     requires { 24 + 11 * length row.old ≤ length out.old }
+    ensures same_rows { SameRows rows.old rows.new }
     ensures next_in_bounds { result.next ≤ length out.new }
-    ensures called { Called (world state nodes.old dots.old rects.old marks.old) row.old call
-        (world result.state nodes.new dots.new rects.new marks.new) row.new
-        (output out.old out.new result.next) }
+    ensures query_line { QueryLine (world_of state (held_mut rows.old) marks.old) window row.old
+        (world_of result.state (held_mut rows.new) marks.new) row.new (output out.old out.new result.next) }
 {
+    answer_listing(state, rows.shared(), marks, window, row, out)
+}
+
+// The call that a line is: an insert without an ink has ink 0, and a query asks for all inks.
+pub fn answer_call(state: State, workspace: &mut Workspace<'_>, call: Call) -> Step
+    requires { 24 + 11 * length workspace.old.row.now ≤ length workspace.old.out.now }
+    ensures same_rows { SameWorkspace workspace.old workspace.new }
+    ensures next_in_bounds { result.next ≤ length workspace.new.out.now }
+    ensures called { Called (turns.world_of state (lent_in workspace.old)) workspace.old.row.now call
+        (turns.world_of result.state (lent_in workspace.new)) workspace.new.row.now
+        (output_of (lent_in workspace.old) (lent_in workspace.new) result.next) }
+{
+    let rows = &mut workspace.rows;
+    let marks = &mut *workspace.marks;
+    let row = &mut *workspace.row;
+    let out = &mut *workspace.out;
     match call {
         Call::Settings(_) => answer_nine(state, out),
         Call::Insert(id, rect) => {
             let dot = Dot { id, rect, ink: 0 };
-            answer_insert(state, nodes, dots, rects, marks, dot, out)
+            answer_insert(state, rows, marks, dot, out)
         }
-        Call::InsertInk(dot) => answer_insert(state, nodes, dots, rects, marks, dot, out),
-        Call::Remove(id, rect) => answer_remove(state, nodes, dots, rects, marks, id, rect, out),
-        Call::Cleanup => answer_cleanup(state, nodes, dots, rects, marks, out),
+        Call::InsertInk(dot) => answer_insert(state, rows, marks, dot, out),
+        Call::Remove(id, rect) => answer_remove(state, rows, marks, id, rect, out),
+        Call::Cleanup => clean_up(state, rows, marks, out),
         Call::Query(rect) => {
             let window = Window::all_inks(rect);
-            answer_listing(state, nodes, dots, rects, marks, window, row, out)
+            list(state, rows, marks, window, row, out)
         }
     }
 }

@@ -2,6 +2,7 @@
 #![tactic(auto)]
 
 ghost use Rattle.std.specs.Prelude.{◌≤◌, length};
+ghost use Rattle.memory.specs.Lent.{held_mut, world_of, SameRows};
 ghost use Rattle.model.specs.Layout.{world};
 ghost use Rattle.lines.specs.Reading.{output};
 ghost use Rattle.ticket.specs.Ticket.{InsertLine, RemoveLine, CleanupLine};
@@ -11,25 +12,25 @@ use calls::insert::insert;
 use calls::remove::remove;
 use geometry::aabb::AABB;
 use lines::answer::{answer_one, answer_two};
+use memory::rows::RowsMut;
 use model::{Dot, State};
 use ticket::Step;
 
 pub fn answer_insert(
     state: State,
-    nodes: &mut [u32],
-    dots: &mut [u32],
-    rects: &mut [i32],
+    rows: &mut RowsMut<'_>,
     marks: &mut [u8],
     dot: Dot,
     out: &mut [u8],
 ) -> Step
     requires { 24 ≤ length out.old }
     ensures next_in_bounds { result.next ≤ length out.new }
-    ensures insert_line { InsertLine (world state nodes.old dots.old rects.old marks.old) dot
-        (world result.state nodes.new dots.new rects.new marks.new)
+    ensures same_rows { SameRows rows.old rows.new }
+    ensures insert_line { InsertLine (world_of state (held_mut rows.old) marks.old) dot
+        (world_of result.state (held_mut rows.new) marks.new)
         (output out.old out.new result.next) }
 {
-    match insert(state, nodes, dots, rects, marks, dot) {
+    match insert(state, rows, marks, dot) {
         Err(refusal) => {
             let next = answer_one(out, b'E', refusal.number());
             Step { state, next }
@@ -46,9 +47,7 @@ pub fn answer_insert(
 
 pub fn answer_remove(
     state: State,
-    nodes: &mut [u32],
-    dots: &mut [u32],
-    rects: &mut [i32],
+    rows: &mut RowsMut<'_>,
     marks: &mut [u8],
     id: u32,
     rect: AABB,
@@ -56,11 +55,12 @@ pub fn answer_remove(
 ) -> Step
     requires { 24 ≤ length out.old }
     ensures next_in_bounds { result.next ≤ length out.new }
-    ensures remove_line { RemoveLine (world state nodes.old dots.old rects.old marks.old) id rect
-        (world result.state nodes.new dots.new rects.new marks.new)
+    ensures same_rows { SameRows rows.old rows.new }
+    ensures remove_line { RemoveLine (world_of state (held_mut rows.old) marks.old) id rect
+        (world_of result.state (held_mut rows.new) marks.new)
         (output out.old out.new result.next) }
 {
-    match remove(state, nodes, dots, rects, marks, id, rect) {
+    match remove(state, rows, marks, id, rect) {
         Err(refusal) => {
             let next = answer_one(out, b'E', refusal.number());
             Step { state, next }
@@ -76,6 +76,7 @@ pub fn answer_remove(
     }
 }
 
+// Dots and rectangles are lent for reading only, as `cleanup` takes them.
 pub fn answer_cleanup(
     state: State,
     nodes: &mut [u32],

@@ -3,12 +3,12 @@
 
 ghost use Rattle.std.specs.Prelude.{◌≡◌, ◌≤◌, length, take};
 ghost use Rattle.ticket.specs.Room.{Room};
-ghost use Rattle.ticket.specs.Turns.{lent};
+ghost use Rattle.ticket.specs.Workspace.{lent_in, SameWorkspace};
 ghost use Rattle.ticket_end.specs.End.{is_left, end_phase, Finished};
 
 use std::io::Write;
 use stream::Stream;
-use ticket::{Phase, Program};
+use ticket::{Phase, Program, Workspace};
 use ticket_turn::turn;
 
 // The phase, and how many bytes of a line that is not whole yet are kept.
@@ -39,28 +39,21 @@ fn ended(phase: Phase) -> Phase
 pub fn finish<W: Write>(
     program: Program,
     progress: Progress,
-    nodes: &mut [u32],
-    dots: &mut [u32],
-    rects: &mut [i32],
-    marks: &mut [u8],
+    workspace: &mut Workspace<'_>,
     line: &[u8],
-    row: &mut [u32],
-    out: &mut [u8],
     output: &mut Stream<W>,
 ) -> Phase
-    requires room { Room program (length row.old) (length out.old) }
+    requires room { Room program (length workspace.old.row.now) (length workspace.old.out.now) }
     requires kept_in_bounds { progress.kept ≤ length line.now }
-    ensures { Finished program progress.phase (take progress.kept line.now)
-        (lent nodes.old dots.old rects.old marks.old row.old out.old) result
-        (lent nodes.new dots.new rects.new marks.new row.new out.new) }
+    ensures same_rows { SameWorkspace workspace.old workspace.new }
+    ensures finished { Finished program progress.phase (take progress.kept line.now)
+        (lent_in workspace.old) result (lent_in workspace.new) }
 {
     let phase = progress.phase;
     let kept = progress.kept;
     if is_left(phase, kept) {
         let last = &line[..kept];
-        ended(turn(
-            program, phase, nodes, dots, rects, marks, last, row, out, output,
-        ))
+        ended(turn(program, phase, workspace, last, output))
     } else {
         ended(phase)
     }

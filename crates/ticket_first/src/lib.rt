@@ -3,7 +3,7 @@
 
 ghost use Rattle.std.specs.Prelude.{◌≡◌, ◌≤◌, length};
 ghost use Rattle.model.specs.declared.State.{State};
-ghost use Rattle.model.specs.Layout.{world};
+ghost use Rattle.memory.specs.Lent.{held_mut, world_of, SameRows};
 ghost use Rattle.lines.specs.Reading.{output, Written};
 ghost use Rattle.ticket.specs.Ticket.{refusal_line};
 ghost use Rattle.ticket.specs.First.{MakeLine, Started, after_start, end_of};
@@ -12,24 +12,24 @@ use calls::make::make;
 use geometry::settings::Settings;
 use lines::answer::answer_one;
 use lines::line::{Call, read_line};
+use memory::rows::RowsMut;
 use model::State;
 use ticket::Start;
 
 fn answer_settings(
     settings: Settings,
-    nodes: &mut [u32],
-    dots: &mut [u32],
-    rects: &mut [i32],
+    rows: &mut RowsMut<'_>,
     marks: &mut [u8],
     out: &mut [u8],
 ) -> Start
     requires { 24 ≤ length out.old }
     ensures result_in_bounds { end_of result ≤ length out.new }
-    ensures make_line { (before : State) → MakeLine (world before nodes.old dots.old rects.old marks.old)
-        settings result (world (after_start before result) nodes.new dots.new rects.new marks.new)
+    ensures same_rows { SameRows rows.old rows.new }
+    ensures make_line { (before : State) → MakeLine (world_of before (held_mut rows.old) marks.old)
+        settings result (world_of (after_start before result) (held_mut rows.new) marks.new)
         (output out.old out.new (end_of result)) }
 {
-    match make(settings, nodes, dots, rects, marks) {
+    match make(settings, rows, marks) {
         Err(refusal) => Start::Ended(answer_one(out, b'E', refusal.number())),
         Ok(state) => Start::Going(state, answer_one(out, b'S', settings.deepest())),
     }
@@ -44,24 +44,16 @@ fn end_nine(out: &mut [u8]) -> Start
 }
 
 // The first line, without its LF, is carried out and answered.
-pub fn answer_first(
-    nodes: &mut [u32],
-    dots: &mut [u32],
-    rects: &mut [i32],
-    marks: &mut [u8],
-    line: &[u8],
-    out: &mut [u8],
-) -> Start
+pub fn answer_first(rows: &mut RowsMut<'_>, marks: &mut [u8], line: &[u8], out: &mut [u8]) -> Start
     requires { 24 ≤ length out.old }
     ensures result_in_bounds { end_of result ≤ length out.new }
-    ensures started { (before : State) → Started (world before nodes.old dots.old rects.old marks.old)
-        line.now result (world (after_start before result) nodes.new dots.new rects.new marks.new)
+    ensures same_rows { SameRows rows.old rows.new }
+    ensures started { (before : State) → Started (world_of before (held_mut rows.old) marks.old)
+        line.now result (world_of (after_start before result) (held_mut rows.new) marks.new)
         (output out.old out.new (end_of result)) }
 {
     match read_line(line) {
-        Some(Call::Settings(settings)) => {
-            answer_settings(settings, nodes, dots, rects, marks, out)
-        }
+        Some(Call::Settings(settings)) => { answer_settings(settings, rows, marks, out) }
         _ => end_nine(out),
     }
 }

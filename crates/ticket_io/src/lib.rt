@@ -8,9 +8,10 @@ ghost use Rattle.std.specs.Prelude.{◌≤◌, length};
 ghost use Rattle.ticket.specs.Room.{Room};
 
 use crate::run::answer_ticket;
+use memory::rows::RowsMut;
 use std::io::{Eprint, Read, Write};
 use stream::Stream;
-use ticket::Program;
+use ticket::{Program, Workspace};
 
 // A program's own rows, the answer's words and its bytes, are passed: as const parameters their sizes would need bounds of their own.
 // The tree's, the line's and the buffer's are the same for all.
@@ -33,15 +34,21 @@ fn run_program<R: Read + Drop, W: Write + Drop, E: Eprint>(
     let mut marks = [0u8; 1536];
     let mut line = [0u8; 81];
     let mut buffer = [0u8; 4096];
-    answer_ticket(
-        program,
-        &mut nodes,
-        &mut dots,
-        &mut rects,
-        &mut marks,
-        &mut line,
+    let rows = RowsMut {
+        nodes: &mut nodes,
+        dots: &mut dots,
+        rects: &mut rects,
+    };
+    let mut workspace = Workspace {
+        rows,
+        marks: &mut marks,
         row,
         out,
+    };
+    answer_ticket(
+        program,
+        &mut workspace,
+        &mut line,
         &mut buffer,
         &mut input,
         &mut output,

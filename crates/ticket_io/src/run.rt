@@ -1,13 +1,14 @@
 // A ticket from standard input to standard output: one read after another, to the input's end.
 ghost use Rattle.std.specs.Prelude.{◌≡◌, ◌≤◌, length};
 ghost use Rattle.ticket.specs.Room.{Room};
-ghost use Rattle.ticket.specs.Turns.{lent, is_over};
+ghost use Rattle.ticket.specs.Turns.{is_over};
+ghost use Rattle.ticket.specs.Workspace.{lent_in, SameWorkspace};
 ghost use Rattle.ticket_io.specs.Reading.{AllAnswered};
 
 use crate::reads::read_on;
 use std::io::{Eprint, Error, Read, Write};
 use stream::{Stream, write_bytes};
-use ticket::{Phase, Program};
+use ticket::{Phase, Program, Workspace};
 use ticket_end::Progress;
 
 // Whether no line is answered any more.
@@ -21,30 +22,22 @@ fn is_over(phase: Phase) -> bool
 // Nothing says that the input ends, so the loop ends after a number of turns that no run uses up.
 fn run<R: Read, W: Write>(
     program: Program,
-    nodes: &mut [u32],
-    dots: &mut [u32],
-    rects: &mut [i32],
-    marks: &mut [u8],
+    workspace: &mut Workspace<'_>,
     line: &mut [u8],
-    row: &mut [u32],
-    out: &mut [u8],
     buffer: &mut [u8],
     input: &mut Stream<R>,
     output: &mut Stream<W>,
 ) -> Phase
-    requires { Room program (length row.old) (length out.old) × (length line.old ≡ 81) }
-    ensures { result ≡ Phase.Ended → AllAnswered program
-        (lent nodes.old dots.old rects.old marks.old row.old out.old)
-        (lent nodes.new dots.new rects.new marks.new row.new out.new) }
+    requires { Room program (length workspace.old.row.now) (length workspace.old.out.now) × (length line.old ≡ 81) }
+    ensures same_rows { SameWorkspace workspace.old workspace.new }
+    ensures all_answered { result ≡ Phase.Ended → AllAnswered program (lent_in workspace.old) (lent_in workspace.new) }
 {
     let mut progress = Progress {
         phase: Phase::First,
         kept: 0,
     };
     for _ in 0..u64::MAX {
-        progress = read_on(
-            program, progress, nodes, dots, rects, marks, line, row, out, buffer, input, output,
-        );
+        progress = read_on(program, progress, workspace, line, buffer, input, output);
         let phase = progress.phase;
         if is_over(phase) {
             return phase;
@@ -72,30 +65,22 @@ fn failed<E: Eprint>(program: Program, failure: Option<Error>, errors: &E) -> u3
 // The header, then the answers. The status is 0, or 1 where a read or a write failed: then nothing more is read or answered.
 pub fn answer_ticket<R: Read, W: Write, E: Eprint>(
     program: Program,
-    nodes: &mut [u32],
-    dots: &mut [u32],
-    rects: &mut [i32],
-    marks: &mut [u8],
+    workspace: &mut Workspace<'_>,
     line: &mut [u8],
-    row: &mut [u32],
-    out: &mut [u8],
     buffer: &mut [u8],
     input: &mut Stream<R>,
     output: &mut Stream<W>,
     errors: &E,
 ) -> u32
-    requires { Room program (length row.old) (length out.old) × (length line.old ≡ 81) }
+    requires { Room program (length workspace.old.row.now) (length workspace.old.out.now) × (length line.old ≡ 81) }
+    ensures same_rows { SameWorkspace workspace.old workspace.new }
     ensures upper_bound { result ≤ 1 }
-    ensures all_answered { result ≡ 0 → AllAnswered program
-        (lent nodes.old dots.old rects.old marks.old row.old out.old)
-        (lent nodes.new dots.new rects.new marks.new row.new out.new) }
+    ensures all_answered { result ≡ 0 → AllAnswered program (lent_in workspace.old) (lent_in workspace.new) }
 {
     if !write_bytes(output, b"DOTS,1\n") {
         return failed(program, output.failure, errors);
     }
-    let phase = run(
-        program, nodes, dots, rects, marks, line, row, out, buffer, input, output,
-    );
+    let phase = run(program, workspace, line, buffer, input, output);
     if let Phase::Ended = phase {
         0
     } else {

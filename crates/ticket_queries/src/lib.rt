@@ -2,7 +2,7 @@
 #![tactic(auto)]
 
 ghost use Rattle.std.specs.Prelude.{◌+◌, ◌*◌, ◌≤◌, length};
-ghost use Rattle.model.specs.Layout.{world};
+ghost use Rattle.memory.specs.Lent.{held, world_of};
 ghost use Rattle.lines.specs.Reading.{output};
 ghost use Rattle.ticket.specs.Ticket.{QueryLine};
 ghost use Rattle.ticket.specs.Report.{GridAnswered};
@@ -12,14 +12,13 @@ use calls::report::grid_report;
 use grid::grid::Grid;
 use lines::answer::{answer_one, answer_query};
 use lines::report::answer_report;
+use memory::rows::Rows;
 use model::{State, Window};
 use ticket::Step;
 
 pub fn answer_listing(
     state: State,
-    nodes: &[u32],
-    dots: &[u32],
-    rects: &[i32],
+    rows: Rows<'_>,
     marks: &mut [u8],
     window: Window,
     row: &mut [u32],
@@ -27,11 +26,11 @@ pub fn answer_listing(
 ) -> Step
     requires { 24 + 11 * length row.old ≤ length out.old }
     ensures next_in_bounds { result.next ≤ length out.new }
-    ensures query_line { QueryLine (world state nodes.now dots.now rects.now marks.old) window
-        row.old (world result.state nodes.now dots.now rects.now marks.new) row.new
+    ensures query_line { QueryLine (world_of state (held rows.entry) marks.old) window
+        row.old (world_of result.state (held rows.entry) marks.new) row.new
         (output out.old out.new result.next) }
 {
-    match query(state, nodes, dots, rects, marks, window, row) {
+    match query(state, rows, marks, window, row) {
         Err(refusal) => {
             let next = answer_one(out, b'E', refusal.number());
             Step { state, next }
@@ -46,9 +45,7 @@ pub fn answer_listing(
 // The report of a grid, or its refusal. Answers where the bytes end.
 pub fn answer_grid(
     state: State,
-    nodes: &[u32],
-    dots: &[u32],
-    rects: &[i32],
+    rows: Rows<'_>,
     marks: &mut [u8],
     grid: Grid,
     row: &mut [u32],
@@ -56,16 +53,12 @@ pub fn answer_grid(
 ) -> usize
     requires { 24 + 17 * length row.old ≤ length out.old }
     ensures upper_bound { result ≤ length out.new }
-    ensures grid_answered { GridAnswered (world state nodes.now dots.now rects.now marks.old) grid row.old
-        (world state nodes.now dots.now rects.now marks.new) row.new
+    ensures grid_answered { GridAnswered (world_of state (held rows.entry) marks.old) grid row.old
+        (world_of state (held rows.entry) marks.new) row.new
         (output out.old out.new result) }
 {
-    match grid_report(state, nodes, dots, rects, marks, grid, row) {
+    match grid_report(state, rows, marks, grid, row) {
         Err(refusal) => answer_one(out, b'E', refusal.number()),
-        Ok(total) => {
-            let columns = grid.column_count();
-            let rows = grid.row_count();
-            answer_report(out, columns, rows, row, total)
-        }
+        Ok(total) => { answer_report(out, grid.column_count(), grid.row_count(), row, total) }
     }
 }

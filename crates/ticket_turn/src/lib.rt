@@ -4,12 +4,13 @@
 ghost use Rattle.std.specs.Prelude.{◌≤◌, length};
 ghost use Rattle.ticket.specs.First.{end_of};
 ghost use Rattle.ticket.specs.Room.{Room};
-ghost use Rattle.ticket.specs.Turns.{lent, phase_of, GoesTo, Turn};
+ghost use Rattle.ticket.specs.Turns.{phase_of, GoesTo, Turn};
+ghost use Rattle.ticket.specs.Workspace.{lent_in, SameWorkspace};
 
 use model::State;
 use std::io::Write;
 use stream::{Stream, write_bytes};
-use ticket::{Phase, Program, Start, Step};
+use ticket::{Phase, Program, Start, Step, Workspace};
 use ticket_first::answer_first;
 use ticket_later::{answer_grid_line, answer_line};
 
@@ -49,28 +50,23 @@ fn stepped<W: Write>(out: &[u8], step: Step, output: &mut Stream<W>) -> Phase
 fn answer<W: Write>(
     program: Program,
     state: State,
-    nodes: &mut [u32],
-    dots: &mut [u32],
-    rects: &mut [i32],
-    marks: &mut [u8],
+    workspace: &mut Workspace<'_>,
     line: &[u8],
-    row: &mut [u32],
-    out: &mut [u8],
     output: &mut Stream<W>,
 ) -> Phase
-    requires { Room program (length row.old) (length out.old) }
-    ensures { Turn program (Phase.Going state)
-        (lent nodes.old dots.old rects.old marks.old row.old out.old) line.now result
-        (lent nodes.new dots.new rects.new marks.new row.new out.new) }
+    requires { Room program (length workspace.old.row.now) (length workspace.old.out.now) }
+    ensures same_rows { SameWorkspace workspace.old workspace.new }
+    ensures turn { Turn program (Phase.Going state)
+        (lent_in workspace.old) line.now result (lent_in workspace.new) }
 {
     match program {
         Program::Dotcheck => {
-            let step = answer_line(state, nodes, dots, rects, marks, line, row, out);
-            stepped(out, step, output)
+            let step = answer_line(state, workspace, line);
+            stepped(workspace.bytes(), step, output)
         }
         Program::Gridreport => {
-            let start = answer_grid_line(state, nodes, dots, rects, marks, line, row, out);
-            started(out, start, output)
+            let start = answer_grid_line(state, workspace, line);
+            started(workspace.bytes(), start, output)
         }
     }
 }
@@ -79,28 +75,21 @@ fn answer<W: Write>(
 pub fn turn<W: Write>(
     program: Program,
     phase: Phase,
-    nodes: &mut [u32],
-    dots: &mut [u32],
-    rects: &mut [i32],
-    marks: &mut [u8],
+    workspace: &mut Workspace<'_>,
     line: &[u8],
-    row: &mut [u32],
-    out: &mut [u8],
     output: &mut Stream<W>,
 ) -> Phase
-    requires { Room program (length row.old) (length out.old) }
-    ensures { Turn program phase
-        (lent nodes.old dots.old rects.old marks.old row.old out.old) line.now result
-        (lent nodes.new dots.new rects.new marks.new row.new out.new) }
+    requires { Room program (length workspace.old.row.now) (length workspace.old.out.now) }
+    ensures same_rows { SameWorkspace workspace.old workspace.new }
+    ensures turn { Turn program phase
+        (lent_in workspace.old) line.now result (lent_in workspace.new) }
 {
     match phase {
         Phase::First => {
-            let start = answer_first(nodes, dots, rects, marks, line, out);
-            started(out, start, output)
+            let start = answer_first(&mut workspace.rows, workspace.marks, line, workspace.out);
+            started(workspace.bytes(), start, output)
         }
-        Phase::Going(state) => answer(
-            program, state, nodes, dots, rects, marks, line, row, out, output,
-        ),
+        Phase::Going(state) => answer(program, state, workspace, line, output),
         Phase::Ended | Phase::Failed => phase,
     }
 }

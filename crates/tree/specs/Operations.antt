@@ -5,33 +5,34 @@
 use Rattle.std.specs.Prelude.{◌≡◌, List, [], ℕ, ℤ, length, replicate}
 use Rattle.model.specs.declared.State.{State}
 use Rattle.model.specs.Shapes.{Shape}
-use Rattle.model.specs.Layout.{world, Holds}
+use Rattle.model.specs.Layout.{Holds}
 use Rattle.model.specs.Calls.{Reply, Verdict, exit, carried_out}
+use Rattle.memory.specs.Lent.{Held, holding, world_of}
 
-pub record IsTree (s : State) (nodes dots : List ℕ) (rects : List ℤ) : Type 0 where
+pub record IsTree (s : State) (h : Held) : Type 0 where
   pub marks : List ℕ
   pub shape : Shape
-  pub holds : Holds (world s nodes dots rects marks) shape
+  pub holds : Holds (world_of s h marks) shape
 
 -- the nodes are those of a tree, with some dots
 pub record HasTree (s : State) (nodes : List ℕ) : Type 0 where
   pub dots : List ℕ
   pub rects : List ℤ
-  pub tree : IsTree s nodes dots rects
+  pub tree : IsTree s (holding nodes dots rects)
 
 -- the nodes and the dots' ids, links and inks are those of a tree, with some rectangles
 pub record HasDots (s : State) (nodes dots : List ℕ) : Type 0 where
   pub rects : List ℤ
-  pub tree : IsTree s nodes dots rects
+  pub tree : IsTree s (holding nodes dots rects)
 
 -- the rectangles are those of a tree, with some nodes, ids and inks
 pub record HasRects (s : State) (rects : List ℤ) : Type 0 where
   pub nodes : List ℕ
   pub dots : List ℕ
-  pub tree : IsTree s nodes dots rects
+  pub tree : IsTree s (holding nodes dots rects)
 
 -- for every marks and every shape that the words hold
-abbrev pub CarriedOut : {A : Type 0} → (Shape → Verdict ℕ A) → State → List ℕ → List ℕ → List ℤ → State → List ℕ → List ℕ → List ℤ → Reply A → Type 0
-CarriedOut rule s nodes dots rects s' nodes' dots' rects' reply =
-    (marks : List ℕ) (x : Shape) → Holds (world s nodes dots rects marks) x
-    → exit (world s' nodes' dots' rects' (replicate (length marks) 0)) [] reply ≡ carried_out (world s nodes dots rects marks) [] (rule x)
+abbrev pub CarriedOut : {A : Type 0} → (Shape → Verdict ℕ A) → State → Held → State → Held → Reply A → Type 0
+CarriedOut rule s h s' h' reply =
+    (marks : List ℕ) (x : Shape) → Holds (world_of s h marks) x
+    → exit (world_of s' h' (replicate (length marks) 0)) [] reply ≡ carried_out (world_of s h marks) [] (rule x)

@@ -13,7 +13,7 @@ pub struct Leaf {
     pub node_data: NodeData,
 }
 
-// The leaf that a rectangle routes to.
+// The leaf that a rectangle routes to. A `while`: the way down counts nothing, and a leaf ends it.
 pub fn find_leaf(settings: Settings, nodes: &[u32], rect: AABB) -> Leaf
     requires { Way settings nodes.now }
     ensures { LeadsTo settings nodes.now rect result }

@@ -1,6 +1,6 @@
 // The whole check.
-ghost use Rattle.model.specs.Layout.{world};
 ghost use Rattle.model.specs.Refusals.{refusal_number};
+ghost use Rattle.memory.specs.Lent.{held, world_of};
 ghost use Rattle.tree_check.specs.Checks.{CheckReady, Decided, Checked};
 
 use crate::chain::check_chain;
@@ -11,31 +11,24 @@ use crate::tree::check_node;
 use memory::lengths::{groups_in, lengths_fit, places_in};
 use memory::marks::clear_marks;
 use memory::node::Node;
+use memory::rows::Rows;
 use model::State;
 use model::refusal::Refusal;
 
 // Whether the memory, whose marks are 0, is a tree; leaves marks behind.
-fn is_tree(
-    state: State,
-    nodes: &[u32],
-    dots: &[u32],
-    rects: &[i32],
-    marks: &mut [u8],
-    places: usize,
-    groups: usize,
-) -> bool
-    requires { CheckReady state nodes.now dots.now rects.now marks.old places groups }
-    ensures { Decided (world state nodes.now dots.now rects.now marks.old) result }
+fn is_tree(state: State, rows: Rows<'_>, marks: &mut [u8], places: usize, groups: usize) -> bool
+    requires { CheckReady state (held rows) marks.old places groups }
+    ensures { Decided (world_of state (held rows.entry) marks.old) result }
 {
     let live = state.live as usize;
     if live > places {
         return false;
     }
     let root = Region::root(state.settings);
-    if !check_node(nodes, dots, rects, marks, places, groups, root, 0) {
+    if !check_node(rows, marks, places, groups, root, 0) {
         return false;
     }
-    if !check_free(nodes, marks, places, groups, state.free_group, groups) {
+    if !check_free(rows.nodes, marks, places, groups, state.free_group, groups) {
         return false;
     }
     let count = (places - live) as u32;
@@ -43,7 +36,7 @@ fn is_tree(
         first: state.free_place,
         count,
     };
-    if !check_chain(dots, rects, marks, places, Gate::Free, free) {
+    if !check_chain(rows.dots, rows.rects, marks, places, Gate::Free, free) {
         return false;
     }
     all_marked(marks)
@@ -51,15 +44,10 @@ fn is_tree(
 
 // Refusals 1 to 3 of every call, in this order (§11.3).
 // Writes the marks alone: 0 everywhere, but for 1 and 2, which leave them as they were.
-pub fn check(
-    state: State,
-    nodes: &[u32],
-    dots: &[u32],
-    rects: &[i32],
-    marks: &mut [u8],
-) -> Result<(), Refusal>
-    ensures { Checked state nodes.now dots.now rects.now marks.old marks.new (refusal_number result) }
+pub fn check(state: State, rows: Rows<'_>, marks: &mut [u8]) -> Result<(), Refusal>
+    ensures { Checked state (held rows.entry) marks.old marks.new (refusal_number result) }
 {
+    let Rows { nodes, dots, rects } = rows;
     if !lengths_fit(nodes.len(), dots.len(), rects.len(), marks.len()) {
         return Err(Refusal::BadLengths);
     }
@@ -70,7 +58,7 @@ pub fn check(
     clear_marks(marks);
     let places = places_in(dots);
     let groups = groups_in(nodes);
-    let tree = is_tree(state, nodes, dots, rects, marks, places, groups);
+    let tree = is_tree(state, rows, marks, places, groups);
     clear_marks(marks);
     if tree { Ok(()) } else { Err(Refusal::NoTree) }
 }

@@ -17,6 +17,7 @@ use Rattle.model.specs.Dots.{acceptable_dot}
 use Rattle.model.specs.Trees.{Placed, leaf}
 use Rattle.model.specs.Insert.{split_count}
 use Rattle.memory.specs.declared.node.Node.{Node}
+use Rattle.memory.specs.Lent.{Held}
 use Rattle.tree.specs.Chains.{ChainStands}
 use Rattle.tree_insert.specs.FreeGroups.{FreeIn}
 
@@ -40,7 +41,7 @@ abbrev pub needed_of : ℕ → ℕ → Option ℕ
 needed_of splits groups = cond (leb splits groups) (Some splits) None
 
 -- the splits of every leaf with that chain, beside every list of free groups from that head
-abbrev pub SplitsTold : Settings → List ℕ → List ℕ → List ℤ → Node → NodeData → AABB → ℕ → Option ℕ → Type 0
-SplitsTold s nodes dots rects node n r head needed =
-    (k : Countable s dots rects node n) (levels : ℕ) → levels_left s n ≤ levels → (free : List ℕ) → FreeIn nodes head free
+abbrev pub SplitsTold : Settings → Held → Node → NodeData → AABB → ℕ → Option ℕ → Type 0
+SplitsTold s h node n r head needed =
+    (k : Countable s h.dots h.rects node n) (levels : ℕ) → levels_left s n ≤ levels → (free : List ℕ) → FreeIn h.nodes head free
     → needed ≡ needed_of (split_count s levels n r (leaf k.chain)) (length free)

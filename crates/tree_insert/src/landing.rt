@@ -1,4 +1,5 @@
 // Where an insert ends, found before anything is stored: its refusal, or its leaf and its splits.
+ghost use Rattle.memory.specs.Lent.{held};
 ghost use Rattle.tree.specs.Operations.{IsTree};
 ghost use Rattle.tree_insert.specs.Landing.{Lands};
 
@@ -6,6 +7,7 @@ use crate::needed::splits_needed;
 use geometry::quad_rect::QuadRect;
 use memory::lengths::places_in;
 use memory::node::node_at;
+use memory::rows::Rows;
 use model::refusal::Refusal;
 use model::{Dot, State};
 use tree::find::{Leaf, find_leaf};
@@ -18,15 +20,9 @@ pub struct Landing {
 }
 
 // Refusals 4, 10, 5, 6, 7 and 16 in this order (§11.4), else the landing.
-pub fn land(
-    state: State,
-    nodes: &[u32],
-    dots: &[u32],
-    rects: &[i32],
-    dot: Dot,
-) -> Result<Landing, Refusal>
-    requires { IsTree state nodes.now dots.now rects.now }
-    ensures { Lands state dot nodes.now dots.now rects.now result }
+pub fn land(state: State, rows: Rows<'_>, dot: Dot) -> Result<Landing, Refusal>
+    requires { IsTree state (held rows) }
+    ensures { Lands state dot (held rows.entry) result }
 {
     let settings = state.settings;
     let rect = dot.rect;
@@ -41,12 +37,12 @@ pub fn land(
     }
     // The live dots, with this one.
     let live = state.live as usize + 1;
-    if places_in(dots) < live {
+    if places_in(rows.dots) < live {
         return Err(Refusal::NoFreePlace);
     }
-    let leaf = find_leaf(settings, nodes, rect);
-    let chain = node_at(nodes, leaf.node);
-    let needed = splits_needed(state, nodes, dots, rects, chain, leaf.node_data, rect);
+    let leaf = find_leaf(settings, rows.nodes, rect);
+    let chain = node_at(rows.nodes, leaf.node);
+    let needed = splits_needed(state, rows, chain, leaf.node_data, rect);
     let Some(splits) = needed else {
         return Err(Refusal::NoFreeGroups);
     };

@@ -3,6 +3,7 @@ ghost use Rattle.std.specs.Prelude.{◌≡◌, ◌&&◌, List, leb};
 ghost use Rattle.geometry.specs.Cells.{may_split};
 ghost use Rattle.model.specs.Sums.{sum_over};
 ghost use Rattle.model.specs.Trees.{Placed};
+ghost use Rattle.memory.specs.Lent.{held};
 ghost use Rattle.tree.specs.Chains.{ChainStands};
 ghost use Rattle.tree_insert.specs.FreeGroups.{SomeFree};
 ghost use Rattle.tree_insert.specs.SplitsNeeded.{within, SomeChain, Countable, SplitsTold};
@@ -14,6 +15,7 @@ use geometry::settings::Settings;
 use memory::chain::Chain;
 use memory::node::{Node, node_at};
 use memory::places::rect_at;
+use memory::rows::Rows;
 use model::State;
 
 // Whether a leaf with so many dots is full and may split.
@@ -40,19 +42,16 @@ pub fn count_within(dots: &[u32], rects: &[i32], chain: Node, bounds: Bounds) ->
 }
 
 // The splits that the insert of a rectangle at a leaf makes, where there is a free group for each; none where a split finds no free group.
-// A dot stays on the way as long as it lies within the bounds of the node reached.
+// A dot stays on the way as long as it lies within the bounds of the node reached. A `while`: a leaf that is not full ends it, not a number of turns.
 pub fn splits_needed(
     state: State,
-    nodes: &[u32],
-    dots: &[u32],
-    rects: &[i32],
+    rows: Rows<'_>,
     chain: Node,
     node_data: NodeData,
     rect: AABB,
 ) -> Option<u32>
-    requires { Countable state.settings dots.now rects.now chain node_data × SomeFree nodes.now state.free_group }
-    ensures { SplitsTold state.settings nodes.now dots.now rects.now chain node_data rect
-        state.free_group result }
+    requires { Countable state.settings rows.dots.now rows.rects.now chain node_data × SomeFree rows.nodes.now state.free_group }
+    ensures { SplitsTold state.settings (held rows.entry) chain node_data rect state.free_group result }
 {
     let settings = state.settings;
     let mut group = state.free_group;
@@ -64,12 +63,12 @@ pub fn splits_needed(
         if group == Node::NONE {
             return None;
         }
-        group = node_at(nodes, group as usize).first;
+        group = node_at(rows.nodes, group as usize).first;
         let cell = reached.cell;
         let child = cell.route(rect);
         bounds = bounds.below(cell, child);
         reached = reached.child(child);
-        count = count_within(dots, rects, chain, bounds);
+        count = count_within(rows.dots, rows.rects, chain, bounds);
         splits += 1;
     }
     Some(splits)

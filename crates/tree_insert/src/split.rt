@@ -53,6 +53,7 @@ fn take_group(nodes: &mut [u32], node: usize, group: u32) -> u32
 }
 
 // Deals a chain to the five leaves of a group (§5.2): from its head on, each dot becomes the head of its child's chain.
+// The rectangles are lent for reading, by their type: with a RowsMut each clause here would have to say that they stay.
 fn deal_chain(
     nodes: &mut [u32],
     dots: &mut [u32],

@@ -5,7 +5,6 @@
 --     Splits       the splits at a cell and below it
 --     Roots        those of a whole tree
 --     Cells        the cells below one
---     Fillings     the test of a leaf's dots
 --     CellCounts   the count at a cell
 --     GroupCounts  the count of a group, child by child
 --     Patches      the count of the whole tree
@@ -20,7 +19,6 @@ pub mod Bounds
 pub mod Splits
 pub mod Roots
 pub mod Cells
-pub mod Fillings
 pub mod CellCounts
 pub mod GroupCounts
 pub mod Patches

@@ -2,7 +2,7 @@
 --     splits_within the splits at a cell and below it
 --     cell_below    a child's cell
 --     CellStands   what holds at a cell of the tree at its node
-use Rattle.std.specs.Prelude.{List, ◌++◌, cond, ℕ, zero, suc, ◌+◌, ◌-◌, ◌≤◌, ℤ, eqb}
+use Rattle.std.specs.Prelude.{List, ◌++◌, cond, ℕ, zero, suc, ◌+◌, ◌-◌, ◌≤◌, eqb}
 use Rattle.geometry.specs.declared.aabb.AABB.{AABB}
 use Rattle.geometry.specs.declared.bounds.Bounds.{Bounds}
 use Rattle.geometry.specs.declared.settings.Settings.{Settings}
@@ -15,6 +15,7 @@ use Rattle.model.specs.Shapes.{WellFormed}
 use Rattle.model.specs.Laying.{rects_of, overfull_cells}
 use Rattle.model.specs.Layout.{branch_mark}
 use Rattle.model.specs.Memory.{first_at, count_at}
+use Rattle.memory.specs.Lent.{Held}
 use Rattle.tree.specs.Trees.{sum_last, TreeStands}
 use Rattle.tint.specs.Counts.{within_bounds}
 use Rattle.tree_patch.specs.declared.splits.Cell.{Cell}
@@ -37,7 +38,7 @@ cell_below nodes c i =
     }
 
 -- the tree at the cell's node; below a leaf it is the leaf, with its whole chain
-pub record CellStands (s : Settings) (nodes dots : List ℕ) (rects : List ℤ) (c : Cell) (t : Tree) : Type 0 where
-  pub stands : TreeStands nodes dots rects c.levels c.node t
+pub record CellStands (s : Settings) (h : Held) (c : Cell) (t : Tree) : Type 0 where
+  pub stands : TreeStands h.nodes h.dots h.rects c.levels c.node t
   pub formed : WellFormed s c.node_data t
   pub enough : levels_left s c.node_data ≤ c.levels

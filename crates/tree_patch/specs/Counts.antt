@@ -15,11 +15,12 @@ use Rattle.model.specs.Sums.{sum_over}
 use Rattle.model.specs.Lists.{All}
 use Rattle.model.specs.Trees.{Placed, Tree}
 use Rattle.model.specs.Shapes.{Shape}
-use Rattle.model.specs.Layout.{world, Holds}
+use Rattle.model.specs.Layout.{Holds}
 use Rattle.model.specs.Laying.{overfull, splits_of_all}
 use Rattle.model.specs.Patch.{patch_fits, patch_rects, patch_dots}
 use Rattle.memory.specs.declared.node.Node.{Node}
 use Rattle.memory.specs.Rows.{HasNode}
+use Rattle.memory.specs.Lent.{Held, world_of}
 use Rattle.tree.specs.Chains.{ChainStands}
 use Rattle.tree_insert.specs.SplitsNeeded.{within}
 use Rattle.tint.specs.Sums.{TileSums}
@@ -56,39 +57,39 @@ pub record CountGiven (s : Settings) (p : Patch) (sums : List ℕ) : Type 0 wher
   pub patch_fit : patch_fits p ≡ true
   pub tile : TileSums p.tint sums
 
-pub record CellCount (s : Settings) (nodes dots : List ℕ) (rects : List ℤ) (c : Cell) (p : Patch) (sums : List ℕ) : Type 0 where
+pub record CellCount (s : Settings) (h : Held) (c : Cell) (p : Patch) (sums : List ℕ) : Type 0 where
   pub given : CountGiven s p sums
   pub cell_fits : InRange c.node_data.cell
   pub tree : Tree
-  pub stands : CellStands s nodes dots rects c tree
+  pub stands : CellStands s h c tree
   pub small : splits_at s p c tree ≤ most_splits
 
-unfoldable pub CellCounted : Settings → List ℕ → List ℕ → List ℤ → Cell → Patch → ℕ → Type 0
-CellCounted s nodes dots rects c p r = (t : Tree) → CellStands s nodes dots rects c t → r ≡ splits_at s p c t
+unfoldable pub CellCounted : Settings → Held → Cell → Patch → ℕ → Type 0
+CellCounted s h c p r = (t : Tree) → CellStands s h c t → r ≡ splits_at s p c t
 
 -- the trees at the cells of the last children
-abbrev pub LastStand : Settings → List ℕ → List ℕ → List ℤ → Cell → ℕ → (ℕ → Tree) → Type 0
-LastStand s nodes dots rects c left f = (i : ℕ) → 5 ≤ i + left → i < 5 → CellStands s nodes dots rects (cell_below nodes c i) (f i)
+abbrev pub LastStand : Settings → Held → Cell → ℕ → (ℕ → Tree) → Type 0
+LastStand s h c left f = (i : ℕ) → 5 ≤ i + left → i < 5 → CellStands s h (cell_below h.nodes c i) (f i)
 
-pub record GroupCount (s : Settings) (nodes dots : List ℕ) (rects : List ℤ) (c : Cell) (left : ℕ) (p : Patch) (sums : List ℕ) : Type 0 where
+pub record GroupCount (s : Settings) (h : Held) (c : Cell) (left : ℕ) (p : Patch) (sums : List ℕ) : Type 0 where
   pub given : CountGiven s p sums
   pub cell_fits : InRange c.node_data.cell
   pub deep : c.node_data.depth < 255
-  pub here : HasNode nodes c.node
+  pub here : HasNode h.nodes c.node
   pub some : 1 ≤ c.levels
   pub few : left ≤ 4
   pub children : ℕ → Tree
-  pub stand : LastStand s nodes dots rects c left children
-  pub small : splits_of_last s p nodes c children left ≤ most_splits
+  pub stand : LastStand s h c left children
+  pub small : splits_of_last s p h.nodes c children left ≤ most_splits
 
-unfoldable pub GroupCounted : Settings → List ℕ → List ℕ → List ℤ → Cell → ℕ → Patch → ℕ → Type 0
-GroupCounted s nodes dots rects c left p r = (f : ℕ → Tree) → LastStand s nodes dots rects c left f → r ≡ splits_of_last s p nodes c f left
+unfoldable pub GroupCounted : Settings → Held → Cell → ℕ → Patch → ℕ → Type 0
+GroupCounted s h c left p r = (f : ℕ → Tree) → LastStand s h c left f → r ≡ splits_of_last s p h.nodes c f left
 
 -- insert refuses no rectangle of the patch as 4 or 5
 pub record AllAcceptable (s : Settings) (p : Patch) : Type 0 where
   pub each : All (λ a. acceptable s a ≡ true) (patch_rects p)
 
 -- for every marks and every shape that the words hold
-unfoldable pub PatchCounted : State → List ℕ → List ℕ → List ℤ → Patch → ℕ → Type 0
-PatchCounted s nodes dots rects p r =
-    (marks : List ℕ) (x : Shape) → Holds (world s nodes dots rects marks) x → r ≡ splits_of_all (patch_dots p) x
+unfoldable pub PatchCounted : State → Held → Patch → ℕ → Type 0
+PatchCounted s h p r =
+    (marks : List ℕ) (x : Shape) → Holds (world_of s h marks) x → r ≡ splits_of_all (patch_dots p) x

@@ -5,7 +5,7 @@
 --     none_laid     nothing is laid yet
 --     Progress, SomeProgress       the dots before a column of a row are laid, and the others can be
 --     Proceeds     from one column and row to another
-use Rattle.std.specs.Prelude.{◌≡◌, List, ◌++◌, true, ℕ, ◌+◌, ◌*◌, ◌≤◌, ◌<◌, ℤ, pos, ◌+ℤ◌, length}
+use Rattle.std.specs.Prelude.{◌≡◌, List, ◌++◌, true, ℕ, ◌+◌, ◌*◌, ◌≤◌, ◌<◌, pos, ◌+ℤ◌, length}
 use Rattle.std.specs.Int.{w32}
 use Rattle.std.proofs.Common.{SFits}
 use Rattle.geometry.specs.declared.aabb.AABB.{AABB}
@@ -14,11 +14,12 @@ use Rattle.model.specs.declared.State.{State}
 use Rattle.model.specs.declared.patch.Patch.{Patch}
 use Rattle.model.specs.Lists.{join_below}
 use Rattle.model.specs.Shapes.{Shape, Valid}
-use Rattle.model.specs.Layout.{world, Holds}
+use Rattle.model.specs.Layout.{Holds}
 use Rattle.model.specs.Calls.{largest_count}
 use Rattle.model.specs.Laying.{laid}
 use Rattle.model.specs.Patch.{patch_fits, unit_rect, has_dot, rects_at, numbered, patch_dots, PatchGoes}
 use Rattle.model.specs.declared.answers.Changed.{Changed}
+use Rattle.memory.specs.Lent.{Held, world_of}
 
 -- those of the rows above, and those to the left
 unfoldable pub rects_before : Patch → ℕ → ℕ → List AABB
@@ -50,19 +51,19 @@ abbrev pub none_laid : State → Changed
 none_laid s = record { state = s; number = 0 }
 
 -- from the shape x on, in which the patch can be laid and its dots counted
-pub record Progress (p : Patch) (column row : ℕ) (l : Changed) (nodes dots : List ℕ) (rects : List ℤ) (marks : List ℕ) (x : Shape) : Type 0 where
+pub record Progress (p : Patch) (column row : ℕ) (l : Changed) (h : Held) (marks : List ℕ) (x : Shape) : Type 0 where
   pub fits : patch_fits p ≡ true
   pub valid : Valid x
   pub goes : PatchGoes p x
   pub counts : x.changes + length (patch_dots p) ≤ largest_count
-  pub holds : Holds (world l.state nodes dots rects marks) (laid (dots_before p column row) x)
+  pub holds : Holds (world_of l.state h marks) (laid (dots_before p column row) x)
   pub number : l.number ≡ length (rects_before p column row)
 
-pub record SomeProgress (p : Patch) (column row : ℕ) (l : Changed) (nodes dots : List ℕ) (rects : List ℤ) : Type 0 where
+pub record SomeProgress (p : Patch) (column row : ℕ) (l : Changed) (h : Held) : Type 0 where
   pub marks : List ℕ
   pub shape : Shape
-  pub progress : Progress p column row l nodes dots rects marks shape
+  pub progress : Progress p column row l h marks shape
 
-pub record Proceeds (p : Patch) (column row : ℕ) (l : Changed) (nodes dots : List ℕ) (rects : List ℤ) (column' row' : ℕ) (l' : Changed)
-    (nodes' dots' : List ℕ) (rects' : List ℤ) : Type 0 where
-  pub on : (marks : List ℕ) (x : Shape) → Progress p column row l nodes dots rects marks x → Progress p column' row' l' nodes' dots' rects' marks x
+pub record Proceeds (p : Patch) (column row : ℕ) (l : Changed) (h : Held) (column' row' : ℕ) (l' : Changed)
+    (h' : Held) : Type 0 where
+  pub on : (marks : List ℕ) (x : Shape) → Progress p column row l h marks x → Progress p column' row' l' h' marks x

@@ -3,9 +3,11 @@ ghost use Rattle.std.specs.Prelude.{◌≡◌, suc, ◌<◌, ◌*◌, ◌≤◌,
 ghost use Rattle.std.specs.Int.{w32};
 ghost use Rattle.model.specs.Thresholds.{thresholds};
 ghost use Rattle.std.proofs.Common.{SFits};
+ghost use Rattle.memory.specs.Lent.{held_mut, SameRows};
 ghost use Rattle.tree_patch.specs.Laid.{DotAt, patch_dot, DotFits, none_laid, SomeProgress, Proceeds};
 
 use geometry::aabb::AABB;
+use memory::rows::RowsMut;
 use model::answers::Changed;
 use model::patch::Patch;
 use model::{Dot, State};
@@ -42,23 +44,15 @@ fn dot_at(patch: Patch, column: u32, row: u32, number: u32) -> Dot
 }
 
 // Lays the dot at a column and a row. Its insert is not refused.
-fn lay_dot(
-    laid: Changed,
-    nodes: &mut [u32],
-    dots: &mut [u32],
-    rects: &mut [i32],
-    patch: Patch,
-    column: u32,
-    row: u32,
-) -> Changed
-    requires { SomeProgress patch column row laid nodes.old dots.old rects.old × DotAt patch column row }
-    ensures { Proceeds patch column row laid nodes.old dots.old rects.old (suc column) row
-        result nodes.new dots.new rects.new }
+fn lay_dot(laid: Changed, rows: &mut RowsMut<'_>, patch: Patch, column: u32, row: u32) -> Changed
+    requires { SomeProgress patch column row laid (held_mut rows.old) × DotAt patch column row }
+    ensures same_rows { SameRows rows.old rows.new }
+    ensures proceeds { Proceeds patch column row laid (held_mut rows.old) (suc column) row result (held_mut rows.new) }
 {
     let state = laid.state;
     let number = laid.number;
     let dot = dot_at(patch, column, row, number);
-    match insert_dot(state, nodes, dots, rects, dot) {
+    match insert_dot(state, rows, dot) {
         Err(_) => laid,
         Ok(inserted) => Changed {
             state: state.followed_by(inserted.state),
@@ -67,47 +61,39 @@ fn lay_dot(
     }
 }
 
-// Lays the dots of a row, from one to the next.
+// Lays the dots of a row, from one to the next. A `while`: `next_dot` says which column is next, and most have no dot.
 fn lay_row(
     before: Changed,
-    nodes: &mut [u32],
-    dots: &mut [u32],
-    rects: &mut [i32],
+    rows: &mut RowsMut<'_>,
     table: &[u8; 256],
     patch: Patch,
     row: u32,
 ) -> Changed
-    requires { SomeProgress patch 0 row before nodes.old dots.old rects.old × (row < 16 * patch.rows) × (table.now ≡ thresholds) }
-    ensures { Proceeds patch 0 row before nodes.old dots.old rects.old 0 (suc row)
-        result nodes.new dots.new rects.new }
+    requires { SomeProgress patch 0 row before (held_mut rows.old) × (row < 16 * patch.rows) × (table.now ≡ thresholds) }
+    ensures same_rows { SameRows rows.old rows.new }
+    ensures proceeds { Proceeds patch 0 row before (held_mut rows.old) 0 (suc row) result (held_mut rows.new) }
 {
     let width = 16 * patch.columns;
     let mut laid = before;
     let mut column = next_dot(table, patch, 0, row);
     while column < width {
-        laid = lay_dot(laid, nodes, dots, rects, patch, column, row);
+        laid = lay_dot(laid, rows, patch, column, row);
         column = next_dot(table, patch, column + 1, row);
     }
     laid
 }
 
 // Lays all dots of a patch, row by row.
-pub fn lay_rows(
-    state: State,
-    nodes: &mut [u32],
-    dots: &mut [u32],
-    rects: &mut [i32],
-    patch: Patch,
-) -> Changed
-    requires { SomeProgress patch 0 0 (none_laid state) nodes.old dots.old rects.old }
-    ensures { Proceeds patch 0 0 (none_laid state) nodes.old dots.old rects.old 0 (16 * patch.rows)
-        result nodes.new dots.new rects.new }
+pub fn lay_rows(state: State, rows: &mut RowsMut<'_>, patch: Patch) -> Changed
+    requires { SomeProgress patch 0 0 (none_laid state) (held_mut rows.old) }
+    ensures same_rows { SameRows rows.old rows.new }
+    ensures proceeds { Proceeds patch 0 0 (none_laid state) (held_mut rows.old) 0 (16 * patch.rows) result (held_mut rows.new) }
 {
     let table = THRESHOLDS;
     let height = 16 * patch.rows;
     let mut laid = Changed { state, number: 0 };
     for row in 0..height {
-        laid = lay_row(laid, nodes, dots, rects, &table, patch, row);
+        laid = lay_row(laid, rows, &table, patch, row);
     }
     laid
 }

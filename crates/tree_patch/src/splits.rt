@@ -4,6 +4,7 @@ ghost use Rattle.std.specs.Prelude.{◌≡◌, true, cond, ◌+◌, ◌≤◌, �
 ghost use Rattle.geometry.specs.Cells.{InRange};
 ghost use Rattle.model.specs.Layout.{branch_mark};
 ghost use Rattle.model.specs.Patch.{patch_fits};
+ghost use Rattle.memory.specs.Lent.{held};
 ghost use Rattle.memory.specs.Rows.{HasNode};
 ghost use Rattle.tree.specs.Operations.{IsTree};
 ghost use Rattle.tint.specs.Sums.{TileSums};
@@ -14,6 +15,7 @@ use geometry::bounds::Bounds;
 use geometry::node_data::NodeData;
 use geometry::settings::Settings;
 use memory::node::{Node, node_at};
+use memory::rows::Rows;
 use model::State;
 use model::patch::Patch;
 use tint::count::dots_within;
@@ -82,64 +84,53 @@ fn is_overfull(
 #[cycle(cell_splits_group_splits)]
 fn cell_splits(
     settings: Settings,
-    nodes: &[u32],
-    dots: &[u32],
-    rects: &[i32],
+    rows: Rows<'_>,
     cell: Cell,
     patch: Patch,
     sums: &[u32; SUMS],
 ) -> u32
-    requires { CellCount settings nodes.now dots.now rects.now cell patch sums.now }
-    ensures { CellCounted settings nodes.now dots.now rects.now cell patch result }
+    requires { CellCount settings (held rows) cell patch sums.now }
+    ensures { CellCounted settings (held rows.entry) cell patch result }
 {
     let laid = dots_within(patch, sums, cell.bounds);
     if laid == 0 {
         return 0;
     }
-    let words = node_at(nodes, cell.node);
+    let words = node_at(rows.nodes, cell.node);
     if words.is_branch() {
-        return group_splits(settings, nodes, dots, rects, cell, patch, sums);
+        return group_splits(settings, rows, cell, patch, sums);
     }
-    if !is_overfull(settings, dots, rects, words, cell, laid) {
+    if !is_overfull(settings, rows.dots, rows.rects, words, cell, laid) {
         return 0;
     }
-    1 + group_splits(settings, nodes, dots, rects, cell, patch, sums)
+    1 + group_splits(settings, rows, cell, patch, sums)
 }
 
 // Those at the children but child 0, and below them.
 #[cycle(cell_splits_group_splits)]
 fn group_splits(
     settings: Settings,
-    nodes: &[u32],
-    dots: &[u32],
-    rects: &[i32],
+    rows: Rows<'_>,
     cell: Cell,
     patch: Patch,
     sums: &[u32; SUMS],
 ) -> u32
-    requires { GroupCount settings nodes.now dots.now rects.now cell 4 patch sums.now }
-    ensures { GroupCounted settings nodes.now dots.now rects.now cell 4 patch result }
+    requires { GroupCount settings (held rows) cell 4 patch sums.now }
+    ensures { GroupCounted settings (held rows.entry) cell 4 patch result }
 {
     let mut splits = 0;
     for child in 1..5 {
-        let below = child_cell(nodes, cell, child);
-        splits += cell_splits(settings, nodes, dots, rects, below, patch, sums);
+        let below = child_cell(rows.nodes, cell, child);
+        splits += cell_splits(settings, rows, below, patch, sums);
     }
     splits
 }
 
 // The splits that all dots of a patch make together, where insert accepts their rectangles.
-pub fn patch_splits(
-    state: State,
-    nodes: &[u32],
-    dots: &[u32],
-    rects: &[i32],
-    patch: Patch,
-    sums: &[u32; SUMS],
-) -> u32
-    requires { IsTree state nodes.now dots.now rects.now × (patch_fits patch ≡ true) × TileSums patch.tint sums.now
+pub fn patch_splits(state: State, rows: Rows<'_>, patch: Patch, sums: &[u32; SUMS]) -> u32
+    requires { IsTree state (held rows) × (patch_fits patch ≡ true) × TileSums patch.tint sums.now
         × AllAcceptable state.settings patch }
-    ensures { PatchCounted state nodes.now dots.now rects.now patch result }
+    ensures { PatchCounted state (held rows.entry) patch result }
 {
     let settings = state.settings;
     let node_data = NodeData::root(settings);
@@ -151,5 +142,5 @@ pub fn patch_splits(
         bounds,
         levels,
     };
-    cell_splits(settings, nodes, dots, rects, root, patch, sums)
+    cell_splits(settings, rows, root, patch, sums)
 }

@@ -10,18 +10,19 @@ use Rattle.model.specs.Layout.{world, Holds}
 use Rattle.model.specs.declared.answers.Found.{Found}
 use Rattle.model.specs.Calls.{Reply, exit, carried_out, found_in, query_rule, leaves_rule}
 use Rattle.std.proofs.lemmas.List.Edits.{sets}
+use Rattle.memory.specs.Lent.{Held, world_of}
 
-unfoldable pub Met : State → Window → List ℕ → List ℕ → List ℤ → List ℕ → List ℕ → Found → Type 0
-Met s q nodes dots rects row row' r =
-    (marks : List ℕ) (x : Shape) → Holds (world s nodes dots rects marks) x → (r ≡ found_in q x) × (row' ≡ sets row 0 (listed q x))
+unfoldable pub Met : State → Window → Held → List ℕ → List ℕ → Found → Type 0
+Met s q h row row' r =
+    (marks : List ℕ) (x : Shape) → Holds (world_of s h marks) x → (r ≡ found_in q x) × (row' ≡ sets row 0 (listed q x))
 
-unfoldable pub Counted : State → Window → List ℕ → List ℕ → List ℤ → Found → Type 0
-Counted s q nodes dots rects r = (marks : List ℕ) (x : Shape) → Holds (world s nodes dots rects marks) x → r ≡ found_in q x
+unfoldable pub Counted : State → Window → Held → Found → Type 0
+Counted s q h r = (marks : List ℕ) (x : Shape) → Holds (world_of s h marks) x → r ≡ found_in q x
 
-unfoldable pub Queried : State → Window → List ℕ → List ℕ → List ℤ → List ℕ → List ℕ → Reply Found → Type 0
-Queried s q nodes dots rects row row' reply =
-    (marks : List ℕ) (x : Shape) → Holds (world s nodes dots rects marks) x
-    → exit (world s nodes dots rects (replicate (length marks) 0)) row' reply ≡ carried_out (world s nodes dots rects marks) row (query_rule q (length row) x)
+unfoldable pub Queried : State → Window → Held → List ℕ → List ℕ → Reply Found → Type 0
+Queried s q h row row' reply =
+    (marks : List ℕ) (x : Shape) → Holds (world_of s h marks) x
+    → exit (world_of s h (replicate (length marks) 0)) row' reply ≡ carried_out (world_of s h marks) row (query_rule q (length row) x)
 
 -- ---- leaves
 

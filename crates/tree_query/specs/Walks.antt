@@ -17,6 +17,7 @@ use Rattle.model.specs.Trees.{Placed, Tree, child_node, size}
 use Rattle.model.specs.Query.{hits, opened}
 use Rattle.model.specs.Layout.{none}
 use Rattle.model.specs.Memory.{read, Chained}
+use Rattle.memory.specs.Lent.{Held}
 use Rattle.tree.specs.Trees.{InRows, node_total, sum_last, join_last, TreeStands}
 use Rattle.model.specs.declared.answers.Found.{Found}
 use Rattle.std.proofs.lemmas.List.Edits.{sets}
@@ -72,30 +73,30 @@ unfoldable pub ChainWalked : Window → List ℕ → List ℤ → List ℕ → F
 ChainWalked q dots rects row found head count row' r =
     (chain : List Placed) → Chained (read [] dots rects) head chain none → length chain ≡ count → Left row found (chain_hits q chain) 0 row' r
 
-pub record NodeWalk (cell : CenteredAABB) (nodes dots : List ℕ) (rects : List ℤ) (found : Found) (a levels : ℕ) : Type 0 where
+pub record NodeWalk (cell : CenteredAABB) (h : Held) (found : Found) (a levels : ℕ) : Type 0 where
   pub tree : Tree
-  pub stands : TreeStands nodes dots rects levels a tree
+  pub stands : TreeStands h.nodes h.dots h.rects levels a tree
   pub grows : CanGrow found (size tree) (node_total tree)
   pub cell_fits : InRange cell
 
-unfoldable pub NodeWalked : Window → CenteredAABB → List ℕ → List ℕ → List ℤ → List ℕ → Found → ℕ → ℕ → List ℕ → Found → Type 0
-NodeWalked q cell nodes dots rects row found a levels row' r =
-    (t : Tree) (n : NodeData) → TreeStands nodes dots rects levels a t → n.cell ≡ cell → Left row found (hits q n t) (opened q.rect n t) row' r
+unfoldable pub NodeWalked : Window → CenteredAABB → Held → List ℕ → Found → ℕ → ℕ → List ℕ → Found → Type 0
+NodeWalked q cell h row found a levels row' r =
+    (t : Tree) (n : NodeData) → TreeStands h.nodes h.dots h.rects levels a t → n.cell ≡ cell → Left row found (hits q n t) (opened q.rect n t) row' r
 
 -- the last `left` children of a group
-pub record GroupWalk (q : Window) (cell : CenteredAABB) (quadrants : Quadrants) (nodes dots : List ℕ) (rects : List ℤ)
+pub record GroupWalk (q : Window) (cell : CenteredAABB) (quadrants : Quadrants) (h : Held)
     (found : Found) (first levels left : ℕ) : Type 0 where
   pub group : ℕ
   pub children : ℕ → Tree
   pub head : first ≡ child_node group 0
   pub small : left ≤ 5
-  pub stands : (i : ℕ) → 5 ≤ i + left → i < 5 → TreeStands nodes dots rects levels (child_node group i) (children i)
+  pub stands : (i : ℕ) → 5 ≤ i + left → i < 5 → TreeStands h.nodes h.dots h.rects levels (child_node group i) (children i)
   pub grows : CanGrow found (sum_last left (λ i. size (children i))) (sum_last left (λ i. node_total (children i)))
   pub cell_fits : InRange cell
   pub code : quadrants.code ≡ cell_code cell q.rect
 
-unfoldable pub GroupWalked : Window → CenteredAABB → List ℕ → List ℕ → List ℤ → List ℕ → Found → ℕ → ℕ → ℕ → List ℕ → Found → Type 0
-GroupWalked q cell nodes dots rects row found first levels left row' r =
+unfoldable pub GroupWalked : Window → CenteredAABB → Held → List ℕ → Found → ℕ → ℕ → ℕ → List ℕ → Found → Type 0
+GroupWalked q cell h row found first levels left row' r =
     (g : ℕ) (f : ℕ → Tree) (n : NodeData) → first ≡ child_node g 0
-    → ((i : ℕ) → 5 ≤ i + left → i < 5 → TreeStands nodes dots rects levels (child_node g i) (f i)) → n.cell ≡ cell
+    → ((i : ℕ) → 5 ≤ i + left → i < 5 → TreeStands h.nodes h.dots h.rects levels (child_node g i) (f i)) → n.cell ≡ cell
     → Left row found (group_hits q n f left) (group_opened q.rect n f left) row' r

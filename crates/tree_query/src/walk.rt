@@ -1,5 +1,6 @@
 // The walk of a query: it counts the dots that it asks for, lists them as far as there is room, and counts the nodes opened.
 ghost use Rattle.std.specs.Prelude.{◌≡◌, ◌<◌};
+ghost use Rattle.memory.specs.Lent.{held};
 ghost use Rattle.tree_query.specs.Walks.{hits_after, row_with, ChainWalk, NodeWalk, GroupWalk, ChainWalked, NodeWalked, GroupWalked};
 
 use crate::rows::keep;
@@ -8,6 +9,7 @@ use geometry::quadrants::Quadrants;
 use memory::chain::Chain;
 use memory::node::{Node, node_at};
 use memory::places::dot_at;
+use memory::rows::Rows;
 use model::answers::Found;
 use model::{Dot, Window};
 
@@ -60,9 +62,7 @@ struct Group {
 // Opens a node: lists its chain, or hands its group on.
 #[cycle(walk_group_walk_node)]
 pub fn walk_node(
-    nodes: &[u32],
-    dots: &[u32],
-    rects: &[i32],
+    rows: Rows<'_>,
     node: usize,
     levels: u32,
     cell: CenteredAABB,
@@ -70,17 +70,17 @@ pub fn walk_node(
     found: Found,
     row: &mut [u32],
 ) -> Found
-    requires { NodeWalk cell nodes.now dots.now rects.now found node levels }
-    ensures { NodeWalked query cell nodes.now dots.now rects.now row.old found node levels
+    requires { NodeWalk cell (held rows) found node levels }
+    ensures { NodeWalked query cell (held rows.entry) row.old found node levels
         row.new result }
 {
-    let words = node_at(nodes, node);
+    let words = node_at(rows.nodes, node);
     let opened = Found {
         hits: found.hits,
         opened: found.opened + 1,
     };
     if !words.is_branch() {
-        return walk_chain(dots, rects, words, query, opened, row);
+        return walk_chain(rows.dots, rows.rects, words, query, opened, row);
     }
     let group = Group {
         first: words.first as usize,
@@ -88,23 +88,15 @@ pub fn walk_node(
         cell,
         quadrants: cell.explore_quadrants(query.rect),
     };
-    walk_group(nodes, dots, rects, group, query, opened, row)
+    walk_group(rows, group, query, opened, row)
 }
 
 // Hands back the children of a group, those that the query opens, in rising order.
 #[cycle(walk_group_walk_node)]
-fn walk_group(
-    nodes: &[u32],
-    dots: &[u32],
-    rects: &[i32],
-    group: Group,
-    query: Window,
-    found: Found,
-    row: &mut [u32],
-) -> Found
-    requires { GroupWalk query group.cell group.quadrants nodes.now dots.now rects.now found
+fn walk_group(rows: Rows<'_>, group: Group, query: Window, found: Found, row: &mut [u32]) -> Found
+    requires { GroupWalk query group.cell group.quadrants (held rows) found
         group.first group.levels 5 }
-    ensures { GroupWalked query group.cell nodes.now dots.now rects.now row.old found
+    ensures { GroupWalked query group.cell (held rows.entry) row.old found
         group.first group.levels 5 row.new result }
 {
     let Group {
@@ -118,7 +110,7 @@ fn walk_group(
         if (child == 0) | quadrants.at(child) {
             let below = cell.split(child);
             let at = first + child as usize;
-            met = walk_node(nodes, dots, rects, at, levels, below, query, met, row);
+            met = walk_node(rows, at, levels, below, query, met, row);
         }
     }
     met

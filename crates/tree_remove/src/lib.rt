@@ -6,6 +6,7 @@ ghost use Rattle.model.specs.Dots.{zero_dot};
 ghost use Rattle.model.specs.Trees.{Placed};
 ghost use Rattle.model.specs.Calls.{remove_rule};
 ghost use Rattle.model.specs.Answers.{yes_no_state, yes_no_reply};
+ghost use Rattle.memory.specs.Lent.{held_mut, SameRows};
 ghost use Rattle.memory.specs.Rows.{HasNode, HasPlace, HasRect, set_node_at, set_next_at, set_dot_at, set_rect_at};
 ghost use Rattle.tree.specs.Operations.{IsTree, CarriedOut};
 ghost use Rattle.tree_remove.specs.Search.{Searchable, hit_in, Linked, unlinked_node, unlinked_dots};
@@ -14,6 +15,7 @@ use geometry::aabb::AABB;
 use memory::chain::Chain;
 use memory::node::{Node, node_at, set_node};
 use memory::places::{id_at, next_at, set_dot, set_next};
+use memory::rows::RowsMut;
 use model::refusal::Refusal;
 use model::{Dot, State};
 use tree::find::find_leaf;
@@ -72,35 +74,35 @@ fn free_place(dots: &mut [u32], rects: &mut [i32], place: usize, head: u32)
     ensures { (dots.new ≡ set_next_at (set_dot_at dots.old place zero_dot) place head)
         × (rects.new ≡ set_rect_at rects.old place zero_dot.rect) }
 {
-    set_dot(dots, rects, place, Dot::zero());
+    set_dot(dots, rects, place, Dot::default());
     set_next(dots, place, head);
 }
 
 // Removes the first dot with an id in the leaf that a rectangle routes to; the dot's own rectangle isn't compared.
 pub fn remove_dot(
     state: State,
-    nodes: &mut [u32],
-    dots: &mut [u32],
-    rects: &mut [i32],
+    rows: &mut RowsMut<'_>,
     id: u32,
     rect: AABB,
 ) -> Result<Option<State>, Refusal>
-    requires { IsTree state nodes.old dots.old rects.old }
-    ensures { CarriedOut (remove_rule id rect) state nodes.old dots.old rects.old (yes_no_state state result)
-        nodes.new dots.new rects.new (yes_no_reply result) }
+    requires { IsTree state (held_mut rows.old) }
+    ensures same_rows { SameRows rows.old rows.new }
+    ensures carried_out { CarriedOut (remove_rule id rect) state (held_mut rows.old) (yes_no_state state result)
+        (held_mut rows.new) (yes_no_reply result) }
 {
     let settings = state.settings;
-    let node = find_leaf(settings, nodes, rect).node;
-    let leaf = node_at(nodes, node);
-    let Some(hit) = find_dot(dots, leaf, id) else {
+    let given = rows.shared();
+    let node = find_leaf(settings, given.nodes, rect).node;
+    let leaf = node_at(given.nodes, node);
+    let Some(hit) = find_dot(given.dots, leaf, id) else {
         return Ok(None);
     };
     if !state.can_count(1) {
         return Err(Refusal::TooManyChanges);
     }
     let place = hit.place;
-    unlink(nodes, dots, node, leaf, hit);
-    free_place(dots, rects, place, state.free_place);
+    unlink(rows.nodes, rows.dots, node, leaf, hit);
+    free_place(rows.dots, rows.rects, place, state.free_place);
     let next = state.changed(state.free_group, place as u32, state.live - 1);
     Ok(Some(next))
 }

@@ -3,18 +3,18 @@
 --     batch-refused        a refusal of the whole batch: nothing was done
 --     batch-done           THE CONTRACT: after the last record
 --     count_done           how many records are carried out: all, or none where the batch is refused
-use Rattle.std.specs.Prelude.{◌≡◌, refl, List, ◌++◌, Bool, true, false, ◌&&◌, cond, ℕ, ◌≤◌, ℤ, eqb, length, drop, replicate, Result, Ok, Err, IfOk}
+use Rattle.std.specs.Prelude.{◌≡◌, refl, List, ◌++◌, Bool, true, false, ◌&&◌, ℕ, ◌≤◌, ℤ, eqb, length, drop, Result, Ok, Err, IfOk}
 use Rattle.std.proofs.Common.{ap, sym, subst, ◌∙◌, arith, eq-eqb, eqb-true, ne_eqb}
 use Rattle.arithmetic.proofs.Laws.Tests.{by_bool, true_false}
 use Rattle.model.specs.declared.Record.{Record}
 use Rattle.model.specs.declared.State.{State}
 use Rattle.model.specs.declared.refusal.Refusal.{Refusal}
-use Rattle.model.specs.Shapes.{Shape}
-use Rattle.model.specs.Layout.{World, world, cleared, layout, Holds, lengths_right}
-use Rattle.model.specs.Calls.{Reply, refused, answered, exit, carried_out, Obeys, Batch, batch_rule, batch_shape, batch_words}
+use Rattle.model.specs.Layout.{world, cleared, lengths_right}
+use Rattle.model.specs.Calls.{refused, answered, exit, Obeys, Batch, batch_rule, batch_words}
 use Rattle.model.specs.Refusals.{number_of, refusal_reply, refusal_number}
 use Rattle.model.proofs.Laws.Refusals.{number-positive, reply-plain}
 use Rattle.model.proofs.Laws.Batches.{batch-words}
+use Rattle.memory.specs.Lent.{holding}
 use Rattle.tree.specs.Operations.{IsTree}
 use Rattle.calls.proofs.Laws.Pattern.{checked-tree, call-refused, call_carried}
 use Rattle.batch_step.specs.Steps.{Begun}
@@ -32,7 +32,7 @@ count_done rs (Ok b) all = all
 count_done rs (Err e) all = sym (rw (ne_eqb (number_of e) 0 (λ z. omega (arith, z, number-positive e))) refl)
 
 module _ (rs : List Record) (answers : List ℕ) {s : State} {nodes dots : List ℕ} {rects : List ℤ} {marks marks' : List ℕ} {checked : Result (Unit {0}) Refusal}
-    (b : Begun (length rs) (length answers) s nodes dots rects marks marks' (refusal_number checked)) where
+    (b : Begun (length rs) (length answers) s (holding nodes dots rects) marks marks' (refusal_number checked)) where
   batch-equal : {u : Unit {0}} → checked ≡ Ok u → length rs ≡ length answers
   batch-equal is =
       by_bool (eqb (length rs) (length answers)) (λ e. eqb-true _ _ e)
@@ -41,7 +41,7 @@ module _ (rs : List Record) (answers : List ℕ) {s : State} {nodes dots : List 
       let none : 0 ≡ 1 = rw is at other in
       absurd (omega (arith, none)))
 
-  pub batch-tree : {u : Unit {0}} → checked ≡ Ok u → IsTree s nodes dots rects × (length rs ≤ length answers)
+  pub batch-tree : {u : Unit {0}} → checked ≡ Ok u → IsTree s (holding nodes dots rects) × (length rs ≤ length answers)
   batch-tree is = (checked-tree (b.checked (batch-equal is)) is, omega (arith, batch-equal is))
 
   pub batch-refused : {e : Refusal} → checked ≡ Err e
@@ -51,7 +51,9 @@ module _ (rs : List Record) (answers : List ℕ) {s : State} {nodes dots : List 
       let w = world s nodes dots rects marks in
       let out = exit (world s nodes dots rects marks') answers (refusal_reply e) in
       by_bool (eqb (length rs) (length answers))
-      (λ same. subst (λ (fits : Bool). Obeys fits (batch_rule rs) w answers out) (sym same) (call-refused (b.checked (eqb-true _ _ same)) (batch_rule rs) answers is))
+      (λ same.
+      subst (λ (fits : Bool). Obeys fits (batch_rule rs) w answers out) (sym same)
+      (call-refused (b.checked (eqb-true _ _ same)) (batch_rule rs) answers is))
       (λ other.
       let u = b.unequal (λ q. true_false (sym (eq-eqb _ _ q) ∙ other)) in
       let one : number_of e ≡ 1 = rw is at u.0 in
@@ -66,13 +68,14 @@ module _ (rs : List Record) (answers : List ℕ) {s : State} {nodes dots : List 
       }))
 
   pub batch-done : {u : Unit {0}} → checked ≡ Ok u → {s' : State} {answers' nodes' dots' : List ℕ} {rects' : List ℤ}
-      → AllCarriedOut rs s answers nodes dots rects s' answers' nodes' dots' rects'
+      → AllCarriedOut rs s answers (holding nodes dots rects) s' answers' (holding nodes' dots' rects')
       → Batch (world s nodes dots rects marks) rs answers (world s' nodes' dots' rects' marks') answers' (answered tt)
   unfolding Batch batch_rule cleared
   batch-done is {s'} {answers'} {nodes'} {dots'} {rects'} run =
       let same = batch-equal is in
-      subst (λ (fits : Bool). Obeys fits (batch_rule rs) (world s nodes dots rects marks) answers (exit (world s' nodes' dots' rects' marks') answers' (answered tt)))
-      (sym (eq-eqb _ _ same))
+      let w = world s nodes dots rects marks in
+      let out = exit (world s' nodes' dots' rects' marks') answers' (answered tt) in
+      subst (λ (fits : Bool). Obeys fits (batch_rule rs) w answers out) (sym (eq-eqb _ _ same))
       (call_carried (b.checked same) (batch_rule rs) answers is (λ m x h.
       let a = run.words m x h in
       let row : answers' ≡ batch_words rs x ++ drop (length (batch_words rs x)) answers =

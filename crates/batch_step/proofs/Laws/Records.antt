@@ -3,10 +3,9 @@
 --     insert_done, remove_done, cleanup_done       a record by its operation's answer
 --     of_kind, other_kind      a record by its kind
 --     stepped      the row with a record's word
-use Rattle.std.specs.Prelude.{◌≡◌, refl, List, [], Bool, true, false, ℕ, ◌≤◌, ℤ, length, replicate, set, Option, Some, None, Result, Ok, Err}
+use Rattle.std.specs.Prelude.{◌≡◌, refl, List, [], ℕ, ℤ, length, replicate, set, Option, Some, None, Result, Ok, Err}
 use Rattle.std.proofs.Math.Path.{ap}
-use Rattle.std.proofs.Common.{sym, ◌∙◌, subst, subst₂, ⊎_elim, arith}
-use Rattle.geometry.specs.declared.aabb.AABB.{AABB}
+use Rattle.std.proofs.Common.{sym, ◌∙◌, subst, subst₂}
 use Rattle.model.specs.declared.Dot.{Dot}
 use Rattle.model.specs.declared.Record.{Record}
 use Rattle.model.specs.declared.State.{State}
@@ -14,16 +13,17 @@ use Rattle.model.specs.declared.Kind.{Kind}
 use Rattle.model.specs.declared.Kind.TheVariants as kind
 use Rattle.model.specs.declared.answers.Changed.{Changed}
 use Rattle.model.specs.declared.refusal.Refusal.{Refusal}
-use Rattle.model.specs.Shapes.{Shape, Valid, removed, found_by, cleaned, cleans}
-use Rattle.model.specs.Layout.{World, world, cleared, layout, Holds, same_settings}
+use Rattle.model.specs.Shapes.{Shape}
+use Rattle.model.specs.Layout.{World, cleared, layout, Holds, same_settings}
 use Rattle.model.specs.Calls.{Reply, refused, too_many, Verdict, refuse, overflow, accept, exit, carried_out}
 use Rattle.model.specs.Refusals.{number_of, refusal_reply}
 use Rattle.model.proofs.Laws.Refusals.{by_number-map}
-use Rattle.model.specs.Calls.{Recorded, recorded, refused_word, yes_no, insert_rule, yes_or_no, remove_rule, cleanup_rule, carry_out}
+use Rattle.model.specs.Calls.{Recorded, recorded, refused_word, yes_no, insert_rule, remove_rule, cleanup_rule, carry_out}
 use Rattle.model.specs.Answers.{change_reply, change_state, yes_no_reply, yes_no_state}
 use Rattle.model.proofs.Laws.Layout.{same-settings, holds-settings}
-use Rattle.model.proofs.Laws.Calls.{counted_cases, insert_cases, world_of_lem, reply_of}
+use Rattle.model.proofs.Laws.Calls.{world_of_lem, reply_of}
 use Rattle.model.proofs.Laws.Batches.{record-valid, record-settings, insert-record, remove-record, cleanup-record, other_record}
+use Rattle.memory.specs.Lent.{Held, holding, world_of}
 use Rattle.tree.specs.Operations.{IsTree, CarriedOut}
 use Rattle.tree_cleanup.specs.Answers.{CleanedUp}
 use Rattle.batch_step.specs.Steps.{record_of, reply_word, RecordCarriedOut, Stepped}
@@ -62,33 +62,31 @@ module _ {A : Type 0} (word : A → ℕ) (w w' : World) (x : Shape) (reply : Rep
   left_by (accept y row a) e = (world_of_lem e, ap (reply_word word) (reply_of e))
 
 module _ {A : Type 0} (word : A → ℕ) (rule : Shape → Verdict ℕ A) (r : Record) (is : (x : Shape) → carry_out r x ≡ recorded word x (rule x))
-    {s : State} {nodes dots : List ℕ} {rects : List ℤ} {s' : State} {nodes' dots' : List ℕ} {rects' : List ℤ} {reply : Reply A}
-    (done : CarriedOut rule s nodes dots rects s' nodes' dots' rects' reply) where
+    {s s' : State} {h h' : Held} {reply : Reply A} (done : CarriedOut rule s h s' h' reply) where
   -- an operation of the rule that the record stands for
-  by_rule : RecordCarriedOut (carry_out r) s nodes dots rects s' nodes' dots' rects' (reply_word word reply)
+  by_rule : RecordCarriedOut (carry_out r) s h s' h' (reply_word word reply)
   unfolding cleared
-  by_rule marks x h =
-      let w = world s nodes dots rects marks in
-      let e = left_by word w (world s' nodes' dots' rects' (replicate (length marks) 0)) x reply h.words (rule x) (done marks x h) in (
-        record { valid = record-valid r x h.valid; words = e.0 ∙ ap (λ (z : Recorded). layout z.shape) (sym (is x)) },
+  by_rule marks x g =
+      let w = world_of s h marks in
+      let e = left_by word w (world_of s' h' (replicate (length marks) 0)) x reply g.words (rule x) (done marks x g) in (
+        record { valid = record-valid r x g.valid; words = e.0 ∙ ap (λ (z : Recorded). layout z.shape) (sym (is x)) },
         e.1 ∙ ap (λ (z : Recorded). z.word) (sym (is x)),
       )
 
-  by_answer : {u : State} {n : ℕ} → (n ≡ reply_word word reply) × (u ≡ s') → RecordCarriedOut (carry_out r) s nodes dots rects u nodes' dots' rects' n
-  by_answer left =
-      subst₂ (λ (v : State) (m : ℕ). RecordCarriedOut (carry_out r) s nodes dots rects v nodes' dots' rects' m) (sym left.1) (sym left.0) by_rule
+  by_answer : {u : State} {n : ℕ} → (n ≡ reply_word word reply) × (u ≡ s') → RecordCarriedOut (carry_out r) s h u h' n
+  by_answer left = subst₂ (λ (v : State) (m : ℕ). RecordCarriedOut (carry_out r) s h v h' m) (sym left.1) (sym left.0) by_rule
 
-module _ {s : State} {nodes dots : List ℕ} {rects : List ℤ} {nodes' dots' : List ℕ} {rects' : List ℤ} {u : State} {n : ℕ} where
-  pub insert_done : (dot : Dot) (a : Result Changed Refusal) → CarriedOut (insert_rule dot) s nodes dots rects (change_state s a) nodes' dots' rects' (change_reply a)
+module _ {s u : State} {h h' : Held} {n : ℕ} where
+  pub insert_done : (dot : Dot) (a : Result Changed Refusal) → CarriedOut (insert_rule dot) s h (change_state s a) h' (change_reply a)
       → (n ≡ reply_word (λ m. m) (change_reply a)) × (u ≡ change_state s a)
-      → RecordCarriedOut (carry_out (record_of kind.Insert dot)) s nodes dots rects u nodes' dots' rects' n
+      → RecordCarriedOut (carry_out (record_of kind.Insert dot)) s h u h' n
   insert_done dot a done left =
       by_answer (λ m. m) (insert_rule dot) (record_of kind.Insert dot) (λ x. insert-record (record_of kind.Insert dot) x refl) done left
 
   pub remove_done : (dot : Dot) (a : Result (Option State) Refusal)
-      → CarriedOut (remove_rule dot.id dot.rect) s nodes dots rects (yes_no_state s a) nodes' dots' rects' (yes_no_reply a)
+      → CarriedOut (remove_rule dot.id dot.rect) s h (yes_no_state s a) h' (yes_no_reply a)
       → (n ≡ reply_word yes_no (yes_no_reply a)) × (u ≡ yes_no_state s a)
-      → RecordCarriedOut (carry_out (record_of kind.Remove dot)) s nodes dots rects u nodes' dots' rects' n
+      → RecordCarriedOut (carry_out (record_of kind.Remove dot)) s h u h' n
   remove_done dot a done left =
       by_answer yes_no (remove_rule dot.id dot.rect) (record_of kind.Remove dot) (λ x. remove-record (record_of kind.Remove dot) x refl) done left
 
@@ -96,7 +94,7 @@ module _ {s : State} {nodes dots : List ℕ} {rects : List ℤ} {nodes' dots' : 
 module _ {s : State} {nodes dots : List ℕ} {rects : List ℤ} {nodes' : List ℕ} where
   pub cleanup_done : {u : State} {n : ℕ} (a : Result (Option State) Refusal) → CleanedUp s nodes nodes' a
       → (n ≡ reply_word yes_no (yes_no_reply a)) × (u ≡ yes_no_state s a)
-      → (dot : Dot) → RecordCarriedOut (carry_out (record_of kind.Cleanup dot)) s nodes dots rects u nodes' dots rects n
+      → (dot : Dot) → RecordCarriedOut (carry_out (record_of kind.Cleanup dot)) s (holding nodes dots rects) u (holding nodes' dots rects) n
   unfolding CleanedUp
   cleanup_done a done left dot =
       by_answer yes_no cleanup_rule (record_of kind.Cleanup dot) (λ x. cleanup-record (record_of kind.Cleanup dot) x refl) (done dots rects) left
@@ -104,36 +102,29 @@ module _ {s : State} {nodes dots : List ℕ} {rects : List ℤ} {nodes' : List �
 -- ---- the kind of a record
 
 -- a record of another kind changes nothing
-pub other_kind : {s : State} {nodes dots : List ℕ} {rects : List ℤ} (r : Record) {n : ℕ} → r.kind ≡ kind.Unknown → n ≡ refused_word 9
-    → RecordCarriedOut (carry_out r) s nodes dots rects s nodes dots rects n
-other_kind {s} {nodes} {dots} {rects} r a w marks x h =
+pub other_kind : {s : State} {h : Held} (r : Record) {n : ℕ} → r.kind ≡ kind.Unknown → n ≡ refused_word 9 → RecordCarriedOut (carry_out r) s h s h n
+other_kind {s} {h} r a w marks x g =
     let e = sym (other_record r x a) in
-    (subst (λ (z : Recorded). Holds (world s nodes dots rects marks) z.shape) e h, w ∙ ap (λ (z : Recorded). z.word) e)
+    (subst (λ (z : Recorded). Holds (world_of s h marks) z.shape) e g, w ∙ ap (λ (z : Recorded). z.word) e)
 
 -- a record is one of its kind
-pub of_kind : (r : Record) (k : Kind) → r.kind ≡ k
-    → {s : State} {nodes dots : List ℕ} {rects : List ℤ} {s' : State} {nodes' dots' : List ℕ} {rects' : List ℤ} {n : ℕ}
-    → RecordCarriedOut (carry_out (record_of k r.dot)) s nodes dots rects s' nodes' dots' rects' n
-    → RecordCarriedOut (carry_out r) s nodes dots rects s' nodes' dots' rects' n
-of_kind r k e {s} {nodes} {dots} {rects} {s'} {nodes'} {dots'} {rects'} {n} d =
-    subst (λ (j : Kind). RecordCarriedOut (carry_out (record_of j r.dot)) s nodes dots rects s' nodes' dots' rects' n) (sym e) d
+pub of_kind : (r : Record) (k : Kind) → r.kind ≡ k → {s s' : State} {h h' : Held} {n : ℕ}
+    → RecordCarriedOut (carry_out (record_of k r.dot)) s h s' h' n → RecordCarriedOut (carry_out r) s h s' h' n
+of_kind r k e {s} {s'} {h} {h'} {n} d = subst (λ (j : Kind). RecordCarriedOut (carry_out (record_of j r.dot)) s h s' h' n) (sym e) d
 
 -- ---- the row with the record's word, and the settings as they were
 
-module _ (r : Record) {s : State} {nodes dots : List ℕ} {rects : List ℤ} (t : IsTree s nodes dots rects) {s' : State} {nodes' dots' : List ℕ} {rects' : List ℤ}
-    {n : ℕ} (done : RecordCarriedOut (carry_out r) s nodes dots rects s' nodes' dots' rects' n) where
+module _ (r : Record) {s s' : State} {h h' : Held} (t : IsTree s h) {n : ℕ} (done : RecordCarriedOut (carry_out r) s h s' h' n) where
   kept-settings : s'.settings ≡ s.settings
   kept-settings =
       let x = t.shape in
-      holds-settings (world s' nodes' dots' rects' t.marks) (carry_out r x).shape (done t.marks x t.holds).0
+      holds-settings (world_of s' h' t.marks) (carry_out r x).shape (done t.marks x t.holds).0
       ∙ record-settings r x t.holds.valid
-      ∙ sym (holds-settings (world s nodes dots rects t.marks) x t.holds)
+      ∙ sym (holds-settings (world_of s h t.marks) x t.holds)
 
-  same-carried_out : {u : State} → u ≡ same_settings s s' → RecordCarriedOut (carry_out r) s nodes dots rects u nodes' dots' rects' n
-  same-carried_out e =
-      subst (λ (v : State). RecordCarriedOut (carry_out r) s nodes dots rects v nodes' dots' rects' n) (same-settings s s' kept-settings ∙ sym e) done
+  same-carried_out : {u : State} → u ≡ same_settings s s' → RecordCarriedOut (carry_out r) s h u h' n
+  same-carried_out e = subst (λ (v : State). RecordCarriedOut (carry_out r) s h v h' n) (same-settings s s' kept-settings ∙ sym e) done
 
-pub stepped : (r : Record) (i : ℕ) {s : State} {answers nodes dots : List ℕ} {rects : List ℤ} {s' u : State} {nodes' dots' : List ℕ} {rects' : List ℤ} {n : ℕ}
-    → IsTree s nodes dots rects → RecordCarriedOut (carry_out r) s nodes dots rects s' nodes' dots' rects' n → u ≡ same_settings s s'
-    → Stepped r i s answers nodes dots rects u (set answers i n) nodes' dots' rects'
-stepped r i {answers = answers} t done e = record { words = λ marks x h. let w = same-carried_out r t done e marks x h in (w.0, ap (set answers i) w.1) }
+pub stepped : (r : Record) (i : ℕ) {s s' u : State} {answers : List ℕ} {h h' : Held} {n : ℕ}
+    → IsTree s h → RecordCarriedOut (carry_out r) s h s' h' n → u ≡ same_settings s s' → Stepped r i s answers h u (set answers i n) h'
+stepped r i {answers = answers} t done e = record { words = λ marks x g. let w = same-carried_out r t done e marks x g in (w.0, ap (set answers i) w.1) }

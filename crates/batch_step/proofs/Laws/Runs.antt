@@ -1,9 +1,7 @@
 -- The run of all records.
---     run-begun    before the first record
 --     run-ready    what a record asks
 --     run-step     a record is one more
---     run-done     after the last
-use Rattle.std.specs.Prelude.{◌≡◌, refl, ℕ, zero, suc, ◌≤◌, ◌<◌, ℤ, get_or, set}
+use Rattle.std.specs.Prelude.{◌≡◌, refl, ℕ, zero, suc, ◌≤◌, ◌<◌, get_or, set}
 use Rattle.std.proofs.Math.Path.{ap, sym, subst}
 use Rattle.std.proofs.Common.{◌∙◌, arith, take-suc, drop-cons}
 use mathlib.Core.List.{List, [], ◌∷◌, ◌++◌}
@@ -11,9 +9,10 @@ use Rattle.std.proofs.Math.ListN.{length, take, drop}
 use Rattle.std.proofs.Math.Seq.{append_snoc, set-append_seam}
 use Rattle.model.specs.declared.Record.{Record}
 use Rattle.model.specs.declared.State.{State}
-use Rattle.model.specs.Layout.{world, Holds}
+use Rattle.model.specs.Layout.{Holds}
 use Rattle.model.specs.Calls.{batch_shape, batch_words, carry_out}
 use Rattle.model.proofs.Laws.Batches.{batch-words, batch-append}
+use Rattle.memory.specs.Lent.{Held, world_of}
 use Rattle.tree.specs.Operations.{IsTree}
 use Rattle.batch_step.specs.Steps.{no_record, Stepped}
 use Rattle.batch_step.specs.Runs.{AllCarriedOut}
@@ -31,28 +30,19 @@ take-length rs zero l = refl
 take-length [] (suc i) l = absurd (omega arith)
 take-length (r ∷ rs) (suc i) l = ap suc (take-length rs i (omega arith))
 
-pub take_all : (rs : List Record) → take (length rs) rs ≡ rs
-take_all [] = refl
-take_all (r ∷ rs) = ap (λ (l : List Record). r ∷ l) (take_all rs)
-
-module _ (rs : List Record) {s : State} {answers nodes dots : List ℕ} {rects : List ℤ} where
-  pub run-begun : AllCarriedOut (take 0 rs) s answers nodes dots rects s answers nodes dots rects
-  run-begun = record { words = λ marks x h. (h, refl) }
-
+module _ (rs : List Record) {s : State} {answers : List ℕ} {h : Held} where
   -- where i records are done
-  module _ (i : ℕ) {s₁ : State} {answers₁ nodes₁ dots₁ : List ℕ} {rects₁ : List ℤ}
-      (run : AllCarriedOut (take i rs) s answers nodes dots rects s₁ answers₁ nodes₁ dots₁ rects₁) where
-    pub run-ready : IsTree s nodes dots rects → IsTree s₁ nodes₁ dots₁ rects₁
+  module _ (i : ℕ) {s₁ : State} {answers₁ : List ℕ} {h₁ : Held} (run : AllCarriedOut (take i rs) s answers h s₁ answers₁ h₁) where
+    pub run-ready : IsTree s h → IsTree s₁ h₁
     run-ready t = record { marks = t.marks; shape = batch_shape (take i rs) t.shape; holds = (run.words t.marks t.shape t.holds).0 }
 
     pub run-step : i < length rs → length rs ≤ length answers
-        → {s' : State} {answers' nodes' dots' : List ℕ} {rects' : List ℤ}
-        → Stepped (get_or rs i no_record) i s₁ answers₁ nodes₁ dots₁ rects₁ s' answers' nodes' dots' rects'
-        → AllCarriedOut (take (suc i) rs) s answers nodes dots rects s' answers' nodes' dots' rects'
-    run-step small room {s'} {answers'} {nodes'} {dots'} {rects'} d = record {
-      words = λ marks x h.
+        → {s' : State} {answers' : List ℕ} {h' : Held} → Stepped (get_or rs i no_record) i s₁ answers₁ h₁ s' answers' h'
+        → AllCarriedOut (take (suc i) rs) s answers h s' answers' h'
+    run-step small room {s'} {answers'} {h'} d = record {
+      words = λ marks x g.
           let r = get_or rs i no_record in
-          let a = run.words marks x h in
+          let a = run.words marks x g in
           let y = batch_shape (take i rs) x in
           let c = d.words marks y a.0 in
           let more = take-suc rs i no_record small in
@@ -63,7 +53,7 @@ module _ (rs : List Record) {s : State} {answers nodes dots : List ℕ} {rects :
           let done : length (take i rs) ≡ i = take-length rs i (omega (arith, small)) in
           let next : length (take (suc i) rs) ≡ suc i = take-length rs (suc i) (omega (arith, small)) in
           let n : length (batch_words (take i rs) x) ≡ i = batch-words (take i rs) x ∙ done in (
-            subst (Holds (world s' nodes' dots' rects' marks)) shapes c.0,
+            subst (Holds (world_of s' h' marks)) shapes c.0,
             c.1
                 ∙ ap (λ (l : List ℕ). set l i (carry_out r y).word) (a.1 ∙ ap (λ (k : ℕ). batch_words (take i rs) x ++ drop k answers) done)
                 ∙ row_step (batch_words (take i rs) x) answers i (carry_out r y).word n (omega (arith, small, room))
@@ -71,8 +61,3 @@ module _ (rs : List Record) {s : State} {answers nodes dots : List ℕ} {rects :
                 ∙ ap (λ (k : ℕ). batch_words (take (suc i) rs) x ++ drop k answers) (sym next),
           );
     }
-
-    pub run-done : i ≡ length rs → AllCarriedOut rs s answers nodes dots rects s₁ answers₁ nodes₁ dots₁ rects₁
-    run-done e =
-        let all : take i rs ≡ rs = ap (λ (k : ℕ). take k rs) e ∙ take_all rs in
-        subst (λ (l : List Record). AllCarriedOut l s answers nodes dots rects s₁ answers₁ nodes₁ dots₁ rects₁) all run

@@ -2,5 +2,5 @@
 use Rattle.batch_step.proofs.Laws.Records.{stepped}
 use Rattle.batch_step.proofs.one.Goals as goal
 
-pub returns : goal.returns
-returns c = stepped _ _ c.requires.0 c.carry_out-done.ensures c.followed_by.ensures
+pub returns-clause-stepped : goal.returns-clause-stepped
+returns-clause-stepped c = stepped _ _ c.requires.0 c.carry_out-done.ensures.carried_out c.followed_by.ensures

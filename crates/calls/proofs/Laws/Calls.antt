@@ -26,6 +26,7 @@ use Rattle.model.specs.Calls.{query_rule, all_rule, leaves_rule, references_rule
 use Rattle.model.specs.Tickets.{Ask, Place, ask_rule, place_rule}
 use Rattle.model.proofs.Laws.Listing.{collect_query}
 use Rattle.model.proofs.Laws.Memory.{holds-represented}
+use Rattle.memory.specs.Lent.{holding}
 use Rattle.tree_check.specs.Checks.{Checked}
 use Rattle.tree.specs.Operations.{CarriedOut}
 use Rattle.tree_query.specs.Answers.{Queried, LeavesListed}
@@ -35,7 +36,7 @@ use Rattle.tree_cleanup.specs.Answers.{CleanedUp}
 use Rattle.calls.proofs.Laws.Pattern.{call-refused, call_carried}
 
 module _ {s : State} {nodes dots : List ℕ} {rects : List ℤ} {marks marks' : List ℕ} {checked : Result (Unit {0}) Refusal}
-    (c : Checked s nodes dots rects marks marks' (refusal_number checked)) where
+    (c : Checked s (holding nodes dots rects) marks marks' (refusal_number checked)) where
   -- ---- the calls that change the tree, and the ask
 
   module _ (dot : Dot) where
@@ -44,7 +45,7 @@ module _ {s : State} {nodes dots : List ℕ} {rects : List ℤ} {marks marks' : 
     insert-refused ne = call-refused c (insert_rule dot) [] ne
 
     pub insert-answered : {u : Unit {0}} → checked ≡ Ok u → {s' : State} {nodes' dots' : List ℕ} {rects' : List ℤ} {reply : Reply ℕ}
-        → CarriedOut (insert_rule dot) s nodes dots rects s' nodes' dots' rects' reply
+        → CarriedOut (insert_rule dot) s (holding nodes dots rects) s' (holding nodes' dots' rects') reply
         → Insert (world s nodes dots rects marks) dot (world s' nodes' dots' rects' marks') reply
     unfolding Insert
     insert-answered z done = call_carried c (insert_rule dot) [] z done
@@ -53,7 +54,8 @@ module _ {s : State} {nodes dots : List ℕ} {rects : List ℤ} {marks marks' : 
     unfolding Ask
     ask-refused ne = call-refused c (ask_rule dot) [] ne
 
-    pub ask-answered : {u : Unit {0}} → checked ≡ Ok u → {reply : Reply Asked} → CarriedOut (ask_rule dot) s nodes dots rects s nodes dots rects reply
+    pub ask-answered : {u : Unit {0}} → checked ≡ Ok u → {reply : Reply Asked}
+        → CarriedOut (ask_rule dot) s (holding nodes dots rects) s (holding nodes dots rects) reply
         → Ask (world s nodes dots rects marks) dot (world s nodes dots rects marks') reply
     unfolding Ask
     ask-answered z done = call_carried c (ask_rule dot) [] z done
@@ -64,7 +66,7 @@ module _ {s : State} {nodes dots : List ℕ} {rects : List ℤ} {marks marks' : 
     place-refused ne = call-refused c (place_rule t) [] ne
 
     pub place-answered : {u : Unit {0}} → checked ≡ Ok u → {s' : State} {nodes' dots' : List ℕ} {rects' : List ℤ} {reply : Reply ℕ}
-        → CarriedOut (place_rule t) s nodes dots rects s' nodes' dots' rects' reply
+        → CarriedOut (place_rule t) s (holding nodes dots rects) s' (holding nodes' dots' rects') reply
         → Place (world s nodes dots rects marks) t (world s' nodes' dots' rects' marks') reply
     unfolding Place
     place-answered z done = call_carried c (place_rule t) [] z done
@@ -75,7 +77,7 @@ module _ {s : State} {nodes dots : List ℕ} {rects : List ℤ} {marks marks' : 
     remove-refused ne = call-refused c (remove_rule id r) [] ne
 
     pub remove-answered : {u : Unit {0}} → checked ≡ Ok u → {s' : State} {nodes' dots' : List ℕ} {rects' : List ℤ} {reply : Reply Bool}
-        → CarriedOut (remove_rule id r) s nodes dots rects s' nodes' dots' rects' reply
+        → CarriedOut (remove_rule id r) s (holding nodes dots rects) s' (holding nodes' dots' rects') reply
         → Remove (world s nodes dots rects marks) id r (world s' nodes' dots' rects' marks') reply
     unfolding Remove
     remove-answered z done = call_carried c (remove_rule id r) [] z done
@@ -96,22 +98,23 @@ module _ {s : State} {nodes dots : List ℕ} {rects : List ℤ} {marks marks' : 
     unfolding Query
     query-refused ne = call-refused c (query_rule q (length row)) row ne
 
-    pub query-answered : {u : Unit {0}} → checked ≡ Ok u → (row' : List ℕ) (reply : Reply Found) → Queried s q nodes dots rects row row' reply
+    pub query-answered : {u : Unit {0}} → checked ≡ Ok u → (row' : List ℕ) (reply : Reply Found) → Queried s q (holding nodes dots rects) row row' reply
         → Query (world s nodes dots rects marks) q row (world s nodes dots rects marks') row' reply
     unfolding Query Queried
     query-answered z row' reply done = call_carried c (query_rule q (length row)) row z done
 
   module _ (row : List ℕ) where
-    pub collect_refused : {e : Refusal} → checked ≡ Err e → CollectIds (world s nodes dots rects marks) row (world s nodes dots rects marks') row (refusal_reply e)
+    pub collect_refused : {e : Refusal} → checked ≡ Err e
+        → CollectIds (world s nodes dots rects marks) row (world s nodes dots rects marks') row (refusal_reply e)
     collect_refused ne = (collect_query _ _ _ _ _).1 (query-refused (of_all_inks (root_rect s.settings)) row ne)
 
-    pub collect_answered : {u : Unit {0}} → checked ≡ Ok u → {r : AABB} {q : Window} → r ≡ root_rect s.settings → q ≡ of_all_inks r → (row' : List ℕ) (reply : Reply Found)
-        → Queried s q nodes dots rects row row' reply
+    pub collect_answered : {u : Unit {0}} → checked ≡ Ok u → {r : AABB} {q : Window} → r ≡ root_rect s.settings → q ≡ of_all_inks r
+        → (row' : List ℕ) (reply : Reply Found) → Queried s q (holding nodes dots rects) row row' reply
         → CollectIds (world s nodes dots rects marks) row (world s nodes dots rects marks') row' reply
     collect_answered z e f row' reply done =
         (collect_query _ _ _ _ _).1
         (query-answered (of_all_inks (root_rect s.settings)) row z row' reply
-        (subst (λ (q : Window). Queried s q nodes dots rects row row' reply) (f ∙ ap of_all_inks e) done))
+        (subst (λ (q : Window). Queried s q (holding nodes dots rects) row row' reply) (f ∙ ap of_all_inks e) done))
 
     pub all-refused : {e : Refusal} → checked ≡ Err e → All (world s nodes dots rects marks) row (world s nodes dots rects marks') row (refusal_reply e)
     unfolding All
@@ -133,7 +136,8 @@ module _ {s : State} {nodes dots : List ℕ} {rects : List ℤ} {marks marks' : 
     leaves-answered z row' reply done = call_carried c (leaves_rule (length row)) row z (done dots rects)
 
   module _ (g : Grid) (row : List ℕ) where
-    pub grid_refused : {e : Refusal} → checked ≡ Err e → GridReport (world s nodes dots rects marks) g row (world s nodes dots rects marks') row (refusal_reply e)
+    pub grid_refused : {e : Refusal} → checked ≡ Err e
+        → GridReport (world s nodes dots rects marks) g row (world s nodes dots rects marks') row (refusal_reply e)
     unfolding GridReport
     grid_refused ne = call-refused c (grid_rule g (length row)) row ne
 

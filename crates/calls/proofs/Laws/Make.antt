@@ -12,12 +12,6 @@ use Rattle.model.specs.Calls.{Make, refused, answered}
 use Rattle.memory.specs.Lengths.{lengths_fit}
 use Rattle.memory.proofs.Laws.Lengths.{lengths-same}
 
--- what the fresh tree asks
-pub make-ready : (nodes dots rects marks : ℕ) (s : Settings) {fits accepts : Bool}
-    → fits ≡ lengths_fit nodes dots rects marks → not fits ≡ false → accepts ≡ in_range s → not accepts ≡ false
-    → (lengths_fit nodes dots rects marks ≡ true) × (in_range s ≡ true)
-make-ready nodes dots rects marks s {fits} {accepts} test l range n = (sym test ∙ not-false fits l, sym range ∙ not-false accepts n)
-
 module _ (s : Settings) (nodes dots : List ℕ) (rects : List ℤ) (marks : List ℕ) {fits : Bool}
     (test : fits ≡ lengths_fit (length nodes) (length dots) (length rects) (length marks)) where
   -- the code's test is the definition's

@@ -14,28 +14,38 @@ use Rattle.model.specs.declared.refusal.Refusal.{Refusal}
 use Rattle.model.specs.Answers.{make_reply, make_state}
 use Rattle.model.specs.Layout.{World, world}
 use Rattle.model.specs.Calls.{Reply, Make}
+use Rattle.memory.specs.Lent.{Held, holding}
 use Rattle.tree_check.specs.Checks.{Checked}
 use Rattle.host_rows.specs.Rows.{CountFits, settings_in, state_in, rows_fit}
 use Rattle.host_rows.specs.Answers.{result_of, state_row, number, Out, made_row}
 use Rattle.host_rows.proofs.Laws.Rows.{unfit, fit, kept_row}
 use Rattle.krakvinge.specs.Exports.{Lent, world_of, Exported, LaysPatch, Makes, Checks}
 
+-- the rows that were lent on for a change end as they were left
+pub record EndsAs (l : Lent) (h : Held) : Type 0 where
+  pub nodes : l.nodes ≡ h.nodes
+  pub dots : l.dots ≡ h.dots
+  pub rects : l.rects ≡ h.rects
+
 module _ {B A : Type 0} {fits : Bool} {words : A → List ℕ} {says : World → List B → World → List B → Reply A → Type 0} where
   pub exported_other : {l : Lent} {row : List B} {b : Bool} → b ≡ fits → not b ≡ true → Exported fits words says l row l row 1
   exported_other test n = record { other_length = λ _. (refl, refl, refl); carried_out = λ e. true_false (sym e ∙ unfit test n) }
 
   module _ {l l' : Lent} {row row' : List B} {result : ℕ} {s : State} {b : Bool} where
-    -- next: the state after the call, by the state before
+    -- next: the state after the call, by the state before; h: what the rows hold then, which end so
     pub exported_changed : (next : State → State) (reply : Reply A)
         → b ≡ fits → not b ≡ false → s ≡ state_in l.state
-        → says (world_of s l) row (world_of (next s) l') row' reply
+        → {h : Held} → says (world_of s l) row (world (next s) h.nodes h.dots h.rects l'.marks) row' reply → EndsAs l' h
         → l'.state ≡ state_row (next (state_in l.state)) l.state reply → Out words reply l.answer l'.answer result
         → Exported fits words says l row l' row' result
-    exported_changed next reply test n e said state out =
+    exported_changed next reply test n e {h} said ends state out =
+        let same : world (next s) h.nodes h.dots h.rects l'.marks ≡ world_of (next s) l' =
+        λ i. world (next s) (sym ends.nodes i) (sym ends.dots i) (sym ends.rects i) l'.marks in
+        let done = subst (λ (w : World). says (world_of s l) row w row' reply) same said in
         record {
           other_length = λ f. true_false (sym (fit test n) ∙ f);
           carried_out = λ _.
-              (next (state_in l.state), reply, subst (λ (t : State). says (world_of t l) row (world_of (next t) l') row' reply) e said, state, out);
+              (next (state_in l.state), reply, subst (λ (t : State). says (world_of t l) row (world_of (next t) l') row' reply) e done, state, out);
         }
 
     pub exported_read : (reply : Reply A)
@@ -44,7 +54,7 @@ module _ {B A : Type 0} {fits : Bool} {words : A → List ℕ} {says : World →
         → l'.state ≡ l.state → Out words reply l.answer l'.answer result
         → Exported fits words says l row l' row' result
     exported_read reply test n read said state out =
-        exported_changed (λ t. t) reply test n read.0 said (state ∙ kept_row l.state read.1 reply) out
+        exported_changed (λ t. t) reply test n read.0 said (record { nodes = refl; dots = refl; rects = refl }) (state ∙ kept_row l.state read.1 reply) out
 
 -- ---- the patch
 
@@ -64,25 +74,29 @@ module _ (row nodes dots : List ℕ) (rects : List ℤ) (marks : List ℕ) where
   pub check_other : (length row ≡ 12 → ⊥) → Checks row nodes dots rects marks marks 1
   check_other ne = record { other_length = λ _. (refl, refl); carried_out = λ e. absurd (ne e) }
 
-  pub check_row : (s : State) (marks' : List ℕ) (result : ℕ) → length row ≡ 12 → s ≡ state_in row → Checked s nodes dots rects marks marks' result
+  pub check_row : (s : State) (marks' : List ℕ) (result : ℕ) → length row ≡ 12 → s ≡ state_in row → Checked s (holding nodes dots rects) marks marks' result
       → Checks row nodes dots rects marks marks' result
   check_row s marks' result twelve e c =
-      record { other_length = λ ne. absurd (ne twelve); carried_out = λ _. subst (λ (t : State). Checked t nodes dots rects marks marks' result) e c }
+      record { other_length = λ ne. absurd (ne twelve); carried_out = λ _. subst (λ (t : State). Checked t (holding nodes dots rects) marks marks' result) e c }
 
   pub make_other : (length row ≡ 12 → ⊥) → Makes row nodes dots rects marks row nodes dots rects marks 1
   make_other ne = record { other_length = λ _. (refl, refl, refl, refl, refl, refl); carried_out = λ e. absurd (ne e) }
 
   pub make-row : (s : Settings) (row' nodes' dots' : List ℕ) (rects' : List ℤ) (marks' : List ℕ) (result : ℕ) (m : Result State Refusal) → length row ≡ 12
       → s ≡ settings_in row
-      → ((before : State) → Make (world before nodes dots rects marks) s (world (make_state before m) nodes' dots' rects' marks') (make_reply m))
+      → {h : Held}
+      → ((before : State) → Make (world before nodes dots rects marks) s (world (make_state before m) h.nodes h.dots h.rects marks') (make_reply m))
+      → nodes' ≡ h.nodes → dots' ≡ h.dots → rects' ≡ h.rects
       → result ≡ result_of (make_reply m) → row' ≡ made_row m row → Makes row nodes dots rects marks row' nodes' dots' rects' marks' result
-  make-row s row' nodes' dots' rects' marks' result m twelve e made same written =
+  make-row s row' nodes' dots' rects' marks' result m twelve e made en ed er same written =
       record {
         other_length = λ ne. absurd (ne twelve);
         carried_out = λ _. (
           m,
           (λ before. subst (λ (t : Settings). Make (world before nodes dots rects marks) t
-              (world (make_state before m) nodes' dots' rects' marks') (make_reply m)) e (made before)),
+              (world (make_state before m) nodes' dots' rects' marks') (make_reply m)) e
+              (subst (λ (w : World). Make (world before nodes dots rects marks) s w (make_reply m))
+              (λ i. world (make_state before m) (sym en i) (sym ed i) (sym er i) marks') (made before))),
           same,
           written,
         );

@@ -2,11 +2,9 @@
 --     batch-twelve    what the code's test of the lengths says
 --     records_length, records_at       how many records a row has, and each of them
 --     batch-out        what a batch returns that is refused
-use Rattle.std.specs.Prelude.{◌≡◌, refl, List, [], ◌∷◌, Bool, false, not, ℕ, ◌+◌, ◌*◌, ◌/◌, ◌%◌, ◌<◌, eqb, ℤ, length, get_or}
-use Rattle.std.proofs.Common.{sym, ◌∙◌, subst, arith, eqb-true, eq-eqb, ne_eqb}
+use Rattle.std.specs.Prelude.{◌≡◌, refl, List, [], ◌∷◌, Bool, false, not, ℕ, ◌+◌, ◌*◌, ◌/◌, ◌%◌, ◌<◌, eqb, length, get_or}
+use Rattle.std.proofs.Common.{sym, ◌∙◌, subst, arith, eqb-true}
 use Rattle.arithmetic.proofs.Laws.Linear.{and_t}
-use Rattle.model.specs.declared.Record.{Record}
-use Rattle.model.specs.declared.State.{State}
 use Rattle.model.specs.Lists.{join_below}
 use Rattle.model.proofs.Laws.Lists.{length-join_below}
 use Rattle.model.proofs.Laws.Entries.{get_d_join_below}

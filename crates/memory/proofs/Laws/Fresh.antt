@@ -81,7 +81,8 @@ up_from (suc n) = ap (λ (l : List ℕ). l ++ (n ∷ [])) (up_from n) ∙ ap (λ
 
 -- ---- the free groups and places of rows that hold the fresh words
 
-module _ (m : Mem) (groups : ℕ) (at : (a : ℕ) → a < 1 + 5 * groups → (m.first a ≡ (fresh_node groups a).first) × (m.count a ≡ (fresh_node groups a).count)) where
+module _ (m : Mem) (groups : ℕ)
+    (at : (a : ℕ) → a < 1 + 5 * groups → (m.first a ≡ (fresh_node groups a).first) × (m.count a ≡ (fresh_node groups a).count)) where
   group-next : (k n : ℕ) → suc k + n ≡ groups → m.first (child_node k 0) ≡ first_node (from (suc k) n)
   group-next k zero e = (at (child_node k 0) (omega arith)).0 ∙ fresh-last groups k (omega arith)
   group-next k (suc n) e = (at (child_node k 0) (omega arith)).0 ∙ fresh-first groups k (omega arith)

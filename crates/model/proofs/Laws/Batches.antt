@@ -4,16 +4,16 @@
 --     record-valid, batch-valid    it keeps the tree
 --     record-settings      it keeps the settings
 --     insert-record, remove-record, cleanup-record, other_record   a record is its single operation
-use Rattle.std.specs.Prelude.{◌≡◌, List, [], ◌∷◌, ◌++◌, Bool, true, false, ℕ, suc, length, eqb, ltb}
+use Rattle.std.specs.Prelude.{◌≡◌, List, [], ◌∷◌, ◌++◌, Bool, true, false, ℕ, suc, length, ltb}
 use Rattle.std.proofs.Math.Path.{refl}
 use Rattle.std.proofs.Common.{ap, sym, subst, ⊎_elim}
-use borrow.Author.Tests.{eq-eqb, ne_eqb}
 use Rattle.arithmetic.proofs.Laws.Tests.{by_bool}
 use Rattle.model.specs.declared.Dot.{Dot}
 use Rattle.model.specs.declared.Record.{Record}
 use Rattle.model.specs.declared.Kind.TheVariants as kind
 use Rattle.model.specs.Shapes.{Shape, Valid, found_by, inserted, removed, cleaned, cleans}
-use Rattle.model.specs.Calls.{largest_count, yes_or_no, recorded, refused_word, yes_no, insert_rule, remove_rule, cleanup_rule, carry_out, carry_out_as, batch_shape, batch_words}
+use Rattle.model.specs.Calls.{largest_count, yes_or_no, recorded, refused_word, yes_no, insert_rule, remove_rule, cleanup_rule, carry_out}
+use Rattle.model.specs.Calls.{carry_out_as, batch_shape, batch_words}
 use Rattle.model.proofs.Laws.Shapes.{inserted-valid, removed-valid, cleaned-valid}
 use Rattle.model.proofs.Laws.Calls.{Goes, insert_cases}
 

@@ -243,7 +243,9 @@ module _ (s : Settings) (w : World) (b : List Dot) (x : Shape) (h : Holds w x) (
       let given = query-left v q row w' row' (answered a) call z r.1 in
       by_bool (ltb (length row) (length (listed q z)))
       (λ e. true_false (ap accepted (listing-short v row w' row' (answered a) z r.1 (listed q z) (found_in q z) given e).1))
-      (λ e. let d = listing_done v row w' row' (answered a) z r.1 (listed q z) (found_in q z) given e in omega (arith, small, ap (λ (f : Found). f.opened) (answered-same d.1)))
+      (λ e.
+      let d = listing_done v row w' row' (answered a) z r.1 (listed q z) (found_in q z) given e in
+      omega (arith, small, ap (λ (f : Found). f.opened) (answered-same d.1)))
 
   stands-removes : (d : Dot) (w' : World) (reply : Reply Bool) → Remove w d.id d.rect w' reply → Has d b → x.changes + 1 ≤ largest_count
       → reply ≡ answered true

@@ -6,7 +6,8 @@
 --     on_dot        a weight on dots, of a dot with its place
 --     id_is, dot_is  1 at the dots of an id; 1 at those of an id and a rectangle
 --     same_rect_true, same_rect-same     the test of equal rectangles
-use Rattle.std.specs.Prelude.{◌≡◌, Bool, true, false, not, cond, ◌&&◌, ◌||◌, ℕ, ℤ}
+--     default-zero  the default dot is what a free place holds
+use Rattle.std.specs.Prelude.{◌≡◌, Bool, true, false, not, cond, ◌&&◌, ◌||◌, ℕ, ℤ, pos}
 use Rattle.std.proofs.Math.Path.{refl}
 use Rattle.std.proofs.Common.{sym, ◌∙◌}
 use borrow.Author.Tests.{eqb-true, eq-eqb, not-true, not-false}
@@ -22,7 +23,7 @@ use Rattle.geometry.proofs.Laws.Geometry.{prune}
 use Rattle.model.specs.declared.Dot.{Dot}
 use Rattle.model.specs.declared.Window.{Window}
 use Rattle.model.specs.Sums.{indicator}
-use Rattle.model.specs.Dots.{good_ink, acceptable_dot, shows, is_hit, matches}
+use Rattle.model.specs.Dots.{good_ink, acceptable_dot, shows, is_hit, matches, zero_dot}
 use Rattle.model.specs.Trees.{Placed}
 
 pub rect-upright : (s : Settings) (r : AABB) → acceptable s r ≡ true → (inverted r ≡ false) × (far_out r ≡ false)
@@ -86,3 +87,7 @@ same_rect_true a b e =
 pub same_rect-same : (r : AABB) → same_rect r r ≡ true
 unfolding same_rect
 same_rect-same r = rw (t_eq r.x1 r.x1 refl, t_eq r.y1 r.y1 refl, t_eq r.x2 r.x2 refl, t_eq r.y2 r.y2 refl) refl
+
+pub default-zero : (d : Dot)
+    → (d.id ≡ 0) × (((d.rect.x1 ≡ pos 0) × ((d.rect.y1 ≡ pos 0) × ((d.rect.x2 ≡ pos 0) × (d.rect.y2 ≡ pos 0)))) × (d.ink ≡ 0)) → d ≡ zero_dot
+default-zero d (id, ((x1, (y1, (x2, y2))), ink)) = λ i. record { id = id i; rect = record { x1 = x1 i; y1 = y1 i; x2 = x2 i; y2 = y2 i }; ink = ink i }

@@ -83,7 +83,8 @@ pub children-once : (q r g : ℕ) → r < 5 → sum_below 5 (λ i. indicator (ch
 children-once q r g b =
     by_dec (ℕ_discrete q g)
     (λ e.
-    sum_below-only 5 (λ i. indicator (child_node q r) (child_node g i)) r b (λ j jb ne. indicator_other (child_node q r) (child_node g j) (λ x. ne (omega arith)))
+    sum_below-only 5 (λ i. indicator (child_node q r) (child_node g i)) r b
+    (λ j jb ne. indicator_other (child_node q r) (child_node g j) (λ x. ne (omega arith)))
     ∙ ap (λ (y : ℕ). indicator (child_node q r) (child_node y r)) (sym e) ∙ indicator-same (child_node q r)
     ∙ sym (ap (indicator q) (sym e) ∙ indicator-same q))
     (λ ne.

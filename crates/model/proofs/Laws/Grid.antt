@@ -8,8 +8,10 @@
 --     join-windows         lists over all windows, joined
 --     count-all, total_all counts and total over other dots that every weight finds in the tree too
 --     count-le, total_le   how large the numbers are
-use Rattle.std.specs.Prelude.{◌≡◌, refl, List, [], ◌∷◌, ◌++◌, Bool, true, false, cond, ◌&&◌, ℕ, zero, suc, ◌+◌, ◌*◌, ◌-◌, ◌/◌, ◌%◌, ◌≤◌, ◌<◌, min, leb, ltb, length, get_or}
-use Rattle.std.proofs.Common.{ap, ap₂, sym, ◌∙◌, append-nil, add-one, mul-le-mul_left, mul-suc, suc-mul, mul_comm, mod-lt, div-lt_iff_lt-mul, arith, leb-true, leb-false, ltb-true, ltb-false}
+use Rattle.std.specs.Prelude.{◌≡◌, refl, List, [], ◌∷◌, ◌++◌, Bool, true, false, cond, ◌&&◌, ℕ, zero, suc, ◌+◌, ◌*◌, ◌-◌, ◌/◌, ◌%◌, ◌≤◌}
+use Rattle.std.specs.Prelude.{◌<◌, min, leb, ltb, length, get_or}
+use Rattle.std.proofs.Common.{ap, ap₂, sym, ◌∙◌, append-nil, add-one, mul-le-mul_left, mul-suc, suc-mul, mul_comm, mod-lt}
+use Rattle.std.proofs.Common.{div-lt_iff_lt-mul, arith, leb-true, leb-false, ltb-true, ltb-false}
 use Rattle.std.proofs.Math.Nat.{div-add-mod}
 use Rattle.std.proofs.Math.ListN.{get_or-append}
 use Rattle.arithmetic.proofs.Laws.Tests.{by_bool}
@@ -178,7 +180,9 @@ dot-windows g fits d fine =
     sum_below_ext (rows_of g) _ (λ row. sum_below (columns_of g) (λ column. bit (in_cell g d column row)))
     (λ row b. sum_below_ext (columns_of g) _ _ (λ column b'. ap bit (window_axes g fits r fine column row b' b)))
     ∙ product (rows_of g) (columns_of g) (in_span (columns_met g r)) (in_span (rows_met g r))
-    ∙ ap₂ ◌*◌ (span-count (columns_of g) (columns_met g r) (span_met-within _ _ _ _ _ _).0) (span-count (rows_of g) (rows_met g r) (span_met-within _ _ _ _ _ _).0)
+    ∙ ap₂ ◌*◌
+    (span-count (columns_of g) (columns_met g r) (span_met-within _ _ _ _ _ _).0)
+    (span-count (rows_of g) (rows_met g r) (span_met-within _ _ _ _ _ _).0)
 
 -- ---- all dots
 

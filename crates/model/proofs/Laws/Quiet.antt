@@ -73,9 +73,10 @@ cleanup-tidy : (n : ℕ) (x : Shape) (reply : Reply Bool) (y : Shape) → Says x
     → Tidy (1 + n) x.tree → Tidy n y.tree
 unfolding cleaned
 cleanup-tidy n x reply y s few d =
+    let one : 1 + n ≡ suc n = omega arith in
     ⊎_elim
     (λ no. rw no.0 (tidy_any n x.tree (clean-tidy x.tree (cleans-no x no.2))))
-    (⊎_elim (λ top. absurd (few (ap refusal top.1))) (λ yes. rw yes.0 (tidy-clean n x.tree (let one : 1 + n ≡ suc n = omega arith in subst (λ (k : ℕ). Tidy k x.tree) one d))))
+    (⊎_elim (λ top. absurd (few (ap refusal top.1))) (λ yes. rw yes.0 (tidy-clean n x.tree (subst (λ (k : ℕ). Tidy k x.tree) one d))))
     s
 
 pub quiet-tidy : (x : Shape) (es : List Event) (y : Shape) → Trace x es y → Quiet es → All (λ e. refusal_of e ≢ 16) es

@@ -64,7 +64,8 @@ dot-rect : (k : ℕ) (r : AABB) (d : Dot) → 1 ≤ dot_is k r d → r ≡ d.rec
 dot-rect k r d h = by_bool (same_rect r d.rect) (λ e. same_rect_true r d.rect e) (λ e. absurd (omega (arith, rw e at h)))
 
 module _ (k : ℕ) (r : AABB) where
-  pub found-gone : (c : NodeData) (t : Tree) → remove_says k r c t ≡ true → Gone k (remove_place k r c t) (λ h. sum_dots h t) (λ h. sum_dots h (remove_at k r c t))
+  pub found-gone : (c : NodeData) (t : Tree) → remove_says k r c t ≡ true
+      → Gone k (remove_place k r c t) (λ h. sum_dots h t) (λ h. sum_dots h (remove_at k r c t))
   found-gone c (leaf ds) e = out-gone k ds e
   found-gone c (branch g f) e =
       let i = route c r in
@@ -93,7 +94,11 @@ module _ (k : ℕ) (r : AABB) where
   remove-groups h c (leaf ds) = refl
   remove-groups h c (branch g f) =
       let i = route c r in
-      omega (arith, remove-groups h (child_data c i) (f i), sum_below-changed 5 (λ j y. sum_groups h y) f i (remove_at k r (child_data c i) (f i)) (route-child c r))
+      omega (
+        arith,
+        remove-groups h (child_data c i) (f i),
+        sum_below-changed 5 (λ j y. sum_groups h y) f i (remove_at k r (child_data c i) (f i)) (route-child c r),
+      )
 
 module _ (S : Settings) where
   out-length : (k : ℕ) (ds : List Placed) → length (first_out k ds) ≤ length ds

@@ -37,8 +37,8 @@ refused-line f e {k} {out} is l =
 
 -- ---- make, whatever the state before it
 
-module _ {x : Settings} {a : Result State Refusal} {nodes dots : List ℕ} {rects : List ℤ} {marks : List ℕ} {nodes' dots' : List ℕ} {rects' : List ℤ} {marks' : List ℕ}
-    {out₀ out : List ℕ} {next : ℕ} where
+module _ {x : Settings} {a : Result State Refusal} {nodes dots : List ℕ} {rects : List ℤ} {marks : List ℕ}
+    {nodes' dots' : List ℕ} {rects' : List ℤ} {marks' : List ℕ} {out₀ out : List ℕ} {next : ℕ} where
   pub make-refused : {e : Refusal} {k : ℕ} → a ≡ Err e → k ≡ number_of e
       → ((before : State) → Make (world before nodes dots rects marks) x (world (make_state before a) nodes' dots' rects' marks') (make_reply a))
       → Written (output out₀ out next) (refusal_line k)

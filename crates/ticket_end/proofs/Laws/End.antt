@@ -4,7 +4,6 @@
 use Rattle.std.specs.Prelude.{◌≡◌, refl, Bool, true, false, List, [], ◌∷◌, ℕ, ◌≤◌, length, take, ltb}
 use Rattle.std.proofs.Common.{sym, subst, ◌∙◌, arith, ltb-true, ltb-false, length-take-le}
 use Rattle.arithmetic.proofs.Laws.Tests.{true_false}
-use Rattle.model.specs.declared.State.{State}
 use Rattle.line_reader.specs.Cut.{last_line}
 use Rattle.ticket.specs.declared.Program.{Program}
 use Rattle.ticket.specs.declared.Phase.{Phase}

@@ -6,7 +6,7 @@ use Rattle.ticket_queries.proofs.answer_grid.Goals as goal
 pub answer_report-requires : goal.answer_report-requires
 answer_report-requires c =
     let asked = report-asks _ c.args.grid _ _ _ c.in-Ok.is c.grid_report.ensures
-    c.column_count-columns.ensures c.row_count-rows.ensures (search rules) c.requires in
+    c.column_count.ensures c.row_count.ensures (search rules) c.requires in
     record { columns_bound = asked.0; rows_in_bounds = asked.1 }
 
 pub returns-in-Err : goal.returns-in-Err

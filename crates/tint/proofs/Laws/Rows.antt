@@ -1,9 +1,9 @@
 -- The search for the next dot of a row.
---     Seeking, seek_start, seek_on its loop: no dot has been passed so far; its begin; a turn
---     seek_found, seek_end     a dot; the row's end or a tile's columns without a dot, after which none has one
-use Rattle.std.specs.Prelude.{◌≡◌, true, false, ℕ, ◌+◌, ◌*◌, ◌-◌, ◌%◌, ◌≤◌, min, get_or, ltb}
+--     Seeking      its loop: no dot has been passed so far
+--     seek_end     the row's end or a tile's columns without a dot, after which none has one
+use Rattle.std.specs.Prelude.{◌≡◌, ℕ, ◌+◌, ◌*◌, ◌-◌, ◌%◌, ◌≤◌, min, get_or, ltb}
 use Rattle.std.proofs.Common.{ap, ◌∙◌, arith}
-use Rattle.std.proofs.Math.Decide.{ℕ_discrete, dec_lt}
+use Rattle.std.proofs.Math.Decide.{dec_lt}
 use Rattle.model.specs.declared.patch.Patch.{Patch}
 use Rattle.model.specs.Thresholds.{thresholds, threshold_at}
 use Rattle.model.specs.Patch.{has_dot}
@@ -14,25 +14,12 @@ pub record Seeking (p : Patch) (column row at : ℕ) : Type 0 where
   pub onward : column ≤ at
   pub none : NoDots p column at row
 
-pub seek_start : {p : Patch} {column row : ℕ} → Seeking p column row column
-seek_start = record { onward = omega arith; none = λ i low high. absurd (omega arith) }
-
 -- columns a tile apart have the same threshold
 same-dot : (p : Patch) (row i j : ℕ) → i % 16 ≡ j % 16 → has_dot p i row ≡ has_dot p j row
 unfolding threshold_at
 same-dot p row i j e = ap (λ (k : ℕ). ltb (get_or thresholds (16 * (row % 16) + k) 0) p.tint) e
 
 module _ {p : Patch} {column row at : ℕ} (s : Seeking p column row at) where
-  pub seek_found : at ≤ 16 * p.columns → has_dot p at row ≡ true → NextDot p column row at
-  seek_found h found = record { onward = s.onward; within = h; none = s.none; dot = λ more. found }
-
-  pub seek_on : has_dot p at row ≡ false → Seeking p column row (at + 1)
-  seek_on here =
-      record {
-        onward = omega (arith, s.onward);
-        none = λ i low high. by_dec (ℕ_discrete i at) (λ e. ap (λ (k : ℕ). has_dot p k row) e ∙ here) (λ ne. s.none i low (omega arith));
-      }
-
   pub seek_end : column ≤ 16 * p.columns → min (16 * p.columns) (column + 16) ≤ at → NextDot p column row (16 * p.columns)
   seek_end h past =
       record {

@@ -1,23 +1,22 @@
 -- Laws of the dots of a tile, summed.
---     RowSum, row-start, row_fits, row_more, row_end       the loop over the columns of a row
+--     RowSum, row_fits, row_more       the loop over the columns of a row
 --     count-few    at most as many dots as corners
 --     sum_top, sum-next, sum_fits  a word by the word of the row above
---     Filling, fill_start, fill_more, fill_end     the loop over the words
-use Rattle.std.specs.Prelude.{◌≡◌, refl, Bool, true, false, List, ltb, length, set}
+--     Filling, fill_start     the loop over the words
+use Rattle.std.specs.Prelude.{◌≡◌, refl, Bool, true, false, List, ltb, length}
 use Rattle.std.proofs.Math.Path.{ap, ap₂}
-use Rattle.std.proofs.Common.{sym, ◌∙◌, add-one, mul-le-mul, length-set, get_or-set_same, get_or-set_other}
+use Rattle.std.proofs.Common.{sym, ◌∙◌, add-one, mul-le-mul}
 use Rattle.std.proofs.Math.Bool.{cond}
 use Prim.Native.Nat.{ℕ, suc, ◌+◌, ◌*◌, ◌-◌, ◌/◌, ◌%◌, ◌≤◌, ◌<◌}
-use Rattle.std.proofs.Math.Decide.{ℕ_discrete}
 use native.Mathlib.Omega.{arith}
 use Rattle.std.proofs.Math.ListN.{get_or}
 use Rattle.std.specs.Int.{w32}
 use mir.Val.{Fits, bool_byte}
 use Rattle.model.specs.Shapes.{below}
 use Rattle.model.specs.Thresholds.{threshold_at, count_before}
-use Rattle.model.proofs.Laws.Sums.{by_dec, sum_below-le, sum_below-one, sum_below-mul}
+use Rattle.model.proofs.Laws.Sums.{sum_below-le, sum_below-one, sum_below-mul}
 use Rattle.model.proofs.Laws.Shapes.{below-le}
-use Rattle.tint.specs.Sums.{row_dots, sum_at, SumsBefore, TileSums}
+use Rattle.tint.specs.Sums.{row_dots, sum_at, SumsBefore}
 
 -- ---- a row
 
@@ -29,9 +28,6 @@ row-few tint row width =
 pub record RowSum (tint row width count i : ℕ) : Type 0 where
   pub within : i ≤ width
   pub counted : count ≡ row_dots tint row i
-
-pub row-start : (tint row width : ℕ) → RowSum tint row width 0 0
-row-start tint row width = record { within = omega arith; counted = refl }
 
 as_one : (t : Bool) → bool_byte t ≡ cond t 1 0
 as_one true = refl
@@ -46,11 +42,6 @@ module _ {tint row width count i : ℕ} {dot : Bool} (s : RowSum tint row width 
 
   pub row_fits : Fits w32 width → Fits w32 (count + bool_byte dot)
   row_fits f = let more = row_more in record { fits = omega (arith, more.counted, more.within, row-few tint row (i + 1)) }
-
-pub row_end : {tint row width count i : ℕ} → RowSum tint row width count i → width ≤ i → count ≡ row_dots tint row width
-row_end {tint} {row} {width} {count} {i} s h =
-    let all : i ≡ width = omega (arith, s.within) in
-    s.counted ∙ ap (row_dots tint row) all
 
 -- ---- a word
 
@@ -94,18 +85,3 @@ pub record Filling (tint : ℕ) (words : List ℕ) (i : ℕ) : Type 0 where
 
 pub fill_start : (tint : ℕ) (words : List ℕ) → length words ≡ 289 → Filling tint words 0
 fill_start tint words e = record { within = omega arith; before = record { whole = e; each = λ i b. absurd (omega arith) } }
-
-pub fill_more : {tint i word : ℕ} {words : List ℕ} → Filling tint words i → i < 289 → word ≡ sum_at tint i → Filling tint (set words i word) (i + 1)
-fill_more {tint} {i} {word} {words} s h e = record {
-  within = omega arith;
-  before = record {
-    whole = length-set words i word ∙ s.before.whole;
-    each = λ j b.
-        by_dec (ℕ_discrete j i)
-        (λ here. rw here (get_or-set_same words i word 0 (omega (arith, s.before.whole)) ∙ e))
-        (λ other. get_or-set_other words i j word 0 other ∙ s.before.each j (omega arith));
-  };
-}
-
-pub fill_end : {tint i : ℕ} {words : List ℕ} → Filling tint words i → 289 ≤ i → TileSums tint words
-fill_end {tint} {i} {words} s h = record { whole = s.before.whole; each = λ j b. s.before.each j (omega (arith, s.within)) }

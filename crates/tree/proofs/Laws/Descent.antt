@@ -2,7 +2,7 @@
 --     steps_left    how far a leaf can be at most
 --     Descending, down-start, down-depth, down-node, down-less, down-on, down-arrived
 --                  the walk's invariant, its begin, what a turn asks, a turn, its end
-use Rattle.std.specs.Prelude.{◌≡◌, refl, false, cond, List, ℕ, ◌+◌, ◌-◌, ◌*◌, ◌≤◌, ◌<◌, eqb}
+use Rattle.std.specs.Prelude.{◌≡◌, refl, false, cond, List, ℕ, ◌+◌, ◌-◌, ◌*◌, ◌<◌, eqb}
 use Rattle.std.proofs.Common.{ap, sym, ◌∙◌}
 use Rattle.std.proofs.Math.Path.{subst}
 use native.Mathlib.Omega.{arith}
@@ -24,9 +24,6 @@ use Rattle.memory.specs.Nodes.{node_at}
 -- how far a leaf can be at most
 abbrev pub steps_left : NodeData → ℕ
 steps_left n = cond n.is_child_0 0 1 + 2 * (256 - n.depth)
-
-pub steps_most : (n : NodeData) → steps_left n ≤ 513
-steps_most n = by_bool n.is_child_0 (λ e. rw e (omega arith)) (λ e. rw e (omega arith))
 
 pub steps_fall : (n : NodeData) (i : ℕ) → n.is_child_0 ≡ false → n.depth < 255 → steps_left (child_data n i) < steps_left n
 unfolding child_data

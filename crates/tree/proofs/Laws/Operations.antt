@@ -17,6 +17,7 @@ use Rattle.model.specs.Calls.{answered, Verdict, accept, exit, carried_out}
 use Rattle.model.specs.Refusals.{refuses, refusal_reply}
 use Rattle.model.proofs.Laws.Refusals.{refused-keeps}
 use Rattle.model.proofs.Laws.Layout.{cleared-holds, holds-settings}
+use Rattle.memory.specs.Lent.{Held, world_of}
 use Rattle.tree.specs.Operations.{IsTree}
 
 module _ {A : Type 0} (s : State) (nodes dots : List ℕ) (rects : List ℤ) (marks : List ℕ) (verdict : Verdict ℕ A) where
@@ -43,6 +44,5 @@ pub same-marks : (s : State) (nodes dots : List ℕ) (rects : List ℤ) (marks :
 unfolding cleared
 same-marks s nodes dots rects marks x h = cleared-holds (world s nodes dots rects marks) x h
 
-pub tree-settings : {s : State} {nodes dots : List ℕ} {rects : List ℤ} → IsTree s nodes dots rects → in_range s.settings ≡ true
-tree-settings {s} {nodes} {dots} {rects} t =
-    ap in_range (holds-settings (world s nodes dots rects t.marks) t.shape t.holds) ∙ t.holds.valid.settings_fit
+pub tree-settings : {s : State} {h : Held} → IsTree s h → in_range s.settings ≡ true
+tree-settings {s} {h} t = ap in_range (holds-settings (world_of s h t.marks) t.shape t.holds) ∙ t.holds.valid.settings_fit

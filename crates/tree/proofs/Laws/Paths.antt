@@ -32,7 +32,8 @@ reach-children (branch g f) (i ∷ p) r = (r.0, reach-children (f i) p r.1)
 
 -- ---- sums
 
-pub sum_dots-put : (h : Placed → ℕ) (t : Tree) (p : List ℕ) (u : Tree) → Children p → sum_dots h (put t p u) + sum_dots h (sub t p) ≡ sum_dots h t + sum_dots h u
+pub sum_dots-put : (h : Placed → ℕ) (t : Tree) (p : List ℕ) (u : Tree) → Children p
+    → sum_dots h (put t p u) + sum_dots h (sub t p) ≡ sum_dots h t + sum_dots h u
 sum_dots-put h t [] u k = omega arith
 sum_dots-put h (leaf c) (i ∷ p) u k = omega arith
 sum_dots-put h (branch g f) (i ∷ p) u k =

@@ -134,7 +134,8 @@ module _ (nd : NodeData) where
       let once_p : (k : ℕ) → place_count k t ≤ 1 = λ k. omega (arith, H.places_once k, below-le k N) in
       let in_n : 1 ≤ node_count b 0 t = omega (arith, sum_nodes-sub (indicator b) 0 t path children, ap (sum_nodes (indicator b) b) e, indicator-same b) in
       let not_g : group_count g t ≡ 0 = omega (arith, H.groups_once g, below-le g G, indicator-same g) in
-      let sub_p : (k : ℕ) → sum_over (at_place k) c ≤ place_count k t = λ k. omega (arith, sum_dots-sub (at_place k) t path children, ap (sum_dots (at_place k)) e) in
+      let sub_p : (k : ℕ) → sum_over (at_place k) c ≤ place_count k t =
+      λ k. omega (arith, sum_dots-sub (at_place k) t path children, ap (sum_dots (at_place k)) e) in
       -- a place or node of the tree outside the leaf is left alone
       let off_n : (k : ℕ) → 1 ≤ node_count k 0 t → k ≢ b → SameNode m w k =
       λ k h ne. split-node m b g c k ne (λ j jb. node-not_free t k g j jb not_g h) in
@@ -159,5 +160,11 @@ module _ (nd : NodeData) where
             (λ k h. deal-place (take_group nd m b g) g c k (omega (arith, H.places_once k, below-le k N, sub_p k))) H.places;
         groups_once = λ k. omega (arith, H.groups_once k, sum_groups-put (indicator k) t path u children, ap (sum_groups (indicator k)) e);
         places_once =
-            λ k. omega (arith, H.places_once k, sum_dots-put (at_place k) t path u children, ap (sum_dots (at_place k)) e, deal-sum nd (at_place k) (λ j. []) c);
+            λ k. omega (
+              arith,
+              H.places_once k,
+              sum_dots-put (at_place k) t path u children,
+              ap (sum_dots (at_place k)) e,
+              deal-sum nd (at_place k) (λ j. []) c,
+            );
       }

@@ -98,7 +98,8 @@ total_nodes a (branch g f) =
     omega (
       arith,
       sum_over-join_below (λ (e : NodeEntry). 1) 5 (λ i. tree_nodes (child_node g i) (f i)),
-      sum_below_ext 5 (λ i. sum_over (λ (e : NodeEntry). 1) (tree_nodes (child_node g i) (f i))) (λ i. node_total (f i)) (λ i b. total_nodes (child_node g i) (f i)),
+      sum_below_ext 5 (λ i. sum_over (λ (e : NodeEntry). 1) (tree_nodes (child_node g i) (f i))) (λ i. node_total (f i))
+          (λ i b. total_nodes (child_node g i) (f i)),
     )
 
 -- all nodes of a shape are 1 + 5G

@@ -2,7 +2,7 @@
 --     has-chain    the chain's places are in the rows
 --     Rest         what has been written and what is left make the whole
 --     rest-start, rest-turn, rest_end      the loop's three steps
---     rest-place, rest-room        what a turn asks: the place that it reads is in the rows, and the row has room
+--     rest-place   what a turn asks: the place that it reads is in the rows
 use Rattle.std.specs.Prelude.{◌≡◌, refl, ℕ, ◌+◌, ◌-◌, ◌<◌, set}
 use Rattle.std.proofs.Common.{ap, sym, ◌∙◌, subst, add-one, arith, length-set}
 use mathlib.Core.List.{List, [], ◌∷◌}
@@ -77,9 +77,6 @@ module _ {dots row₀ : List ℕ} {at₀ head count : ℕ} {row : List ℕ} {at 
         go : (chain : List Placed) → ChainInRows dots place chain → length chain ≡ left → HasPlace dots place
         go [] s l = absurd (omega (arith, l, t.some))
         go (d ∷ ds) s l = subst (HasPlace dots) (sym s.stands.0) s.in_rows.0.0
-
-    pub rest-room : (at < length row) × (at < 65536)
-    rest-room = (omega (arith, inv.same, inv.position, w.fits.room, t.some), omega (arith, inv.position, w.fits.small, t.some))
 
   -- nothing is left: the whole chain is written
   pub rest_end : left ≡ 0 → ChainListed dots row₀ at₀ head count row at

@@ -2,7 +2,7 @@
 --     group_empty  no child is left
 --     group-child, group-others, group_gives       the first child's walk; what the others' asks; both together
 --     Ahead        the loop over the children: what it has left to do leads to the whole
---     ahead-start, ahead-child, ahead-next, ahead_end      its begin; a child's walk; a turn; its end
+--     ahead-child, ahead-next, ahead_end       a child's walk; a turn; its end
 use Rattle.std.specs.Prelude.{◌≡◌, List, ℕ, ◌+◌, ◌-◌, ◌≤◌, ◌<◌}
 use Rattle.std.proofs.Common.{sym, arith}
 use Rattle.std.proofs.Math.Path.{subst}
@@ -79,10 +79,6 @@ pub record Ahead (nodes dots row₀ : List ℕ) (at₀ first levels : ℕ) (row 
   pub asks : GroupList nodes dots row at first levels (5 - child)
   pub whole : (row' : List ℕ) (r : ℕ) → GroupListed nodes dots row at first levels (5 - child) row' r
       → GroupListed nodes dots row₀ at₀ first levels 5 row' r
-
-pub ahead-start : {nodes dots row : List ℕ} {at first levels : ℕ} → GroupList nodes dots row at first levels 5
-    → Ahead nodes dots row at first levels row at 0
-ahead-start w = record { asks = w; whole = λ row' r g. g }
 
 module _ {nodes dots row₀ : List ℕ} {at₀ first levels : ℕ} {row : List ℕ} {at child : ℕ} (a : Ahead nodes dots row₀ at₀ first levels row at child) where
   module _ (more : child < 5) where

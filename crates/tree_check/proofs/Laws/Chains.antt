@@ -1,7 +1,7 @@
 -- The check of a chain: it says yes just where there is a chain whose dots pass the test, and marks its places.
 --     chain-nodes      a chain is the same whatever the nodes hold
 --     ChainLeft        the loop: what is left to check is good just where the whole is
---     left-start, left-next        before the loop all is left; one dot more
+--     left-next        one dot more
 --     left_far, left_seen, left_bad, left_end      the answer: no such place, a marked one, a dot that does not pass; at the end
 use Rattle.std.specs.Prelude.{◌≡◌, List, [], ◌∷◌, Bool, true, false, not, ℕ, ◌+◌, ◌-◌, ◌≤◌, ◌<◌, length, get_or, set, eqb}
 use Rattle.std.proofs.Math.Path.{refl}
@@ -37,11 +37,6 @@ pub record ChainLeft (test : Dot → Bool) (m : Mem) (marks : List ℕ) (places 
       × ((j : ℕ) → j < places → place_mark marks j + chain_count chain j ≡ place_mark marks' j + chain_count rest j)
   pub forth : (chain : List Placed) → ChainGood test m marks places head count chain → (rest : List Placed) × ChainGood test m marks' places link left rest
   pub kept : (j : ℕ) → places ≤ j → get_or marks' j 0 ≡ get_or marks j 0
-
-pub left-start : (test : Dot → Bool) (m : Mem) (marks : List ℕ) (places head count : ℕ) → ((j : ℕ) → get_or marks j 0 ≤ 1)
-    → ChainLeft test m marks places head count marks head count
-left-start test m marks places head count bits =
-    record { size = refl; bits = bits; back = λ rest g. (rest, g, λ j b. refl); forth = λ chain g. (chain, g); kept = λ j b. refl }
 
 -- ---- one dot
 

@@ -17,6 +17,7 @@ use Rattle.model.specs.declared.State.{State}
 use Rattle.model.specs.Layout.{groups_in, places_in, world, blank, lengths_right, cleared}
 use Rattle.model.specs.Memory.{read}
 use Rattle.memory.specs.Lengths.{lengths_fit}
+use Rattle.memory.specs.Lent.{holding}
 use Rattle.memory.proofs.Laws.Lengths.{lengths-same, lengths-stated}
 use Rattle.tree_check.specs.declared.region.Region.{Region}
 use Rattle.tree_check.specs.declared.region.Gate.TheVariants.{Free}
@@ -34,13 +35,13 @@ use Rattle.tree_check.proofs.Laws.Shapes.{found-holds, live-fits, tree-good, gro
 
 -- both were found, and marked
 pub record Freed (s : State) (nodes dots : List ℕ) (rects : List ℤ) (marks : List ℕ) (places groups : ℕ) (marks₂ : List ℕ) : Type 0 where
-  pub ready : CheckReady s nodes dots rects marks places groups
+  pub ready : CheckReady s (holding nodes dots rects) marks places groups
   pub marks₁ : List ℕ
   pub tree : TreeFound (root_region s.settings) (read nodes dots rects) marks places groups 0 marks₁
   pub free : FreeFound (node_memory nodes) marks₁ places groups s.free_group groups marks₂
 
 module _ {s : State} {nodes dots : List ℕ} {rects : List ℤ} {marks : List ℕ} {places groups : ℕ}
-    (ready : CheckReady s nodes dots rects marks places groups) where
+    (ready : CheckReady s (holding nodes dots rects) marks places groups) where
   pub no-live : places < s.live → Decided (world s nodes dots rects marks) false
   unfolding Decided
   no-live b x h = live-fits s nodes dots rects marks places groups ready x h b
@@ -123,7 +124,7 @@ module _ (s : State) (nodes dots : List ℕ) (rects : List ℤ) (marks : List �
   right : {b : Bool} → fit ≡ b → lengths_right (world s nodes dots rects marks) ≡ b
   right e = sym (lengths-same s nodes dots rects marks) ∙ sym lengths ∙ e
 
-  pub by_length : not fit ≡ true → Checked s nodes dots rects marks marks 1
+  pub by_length : not fit ≡ true → Checked s (holding nodes dots rects) marks marks 1
   by_length n =
       let e = right (not-true fit n) in
       record { bad_length = λ _. (refl, refl); bad_settings = λ l _. true_false (sym l ∙ e); checked = λ l _. true_false (sym l ∙ e) }
@@ -132,14 +133,14 @@ module _ (s : State) (nodes dots : List ℕ) (rects : List ℤ) (marks : List �
     l : lengths_right (world s nodes dots rects marks) ≡ true
     l = right (not-false fit n)
 
-    pub by-settings : not good ≡ true → Checked s nodes dots rects marks marks 2
+    pub by-settings : not good ≡ true → Checked s (holding nodes dots rects) marks marks 2
     by-settings g =
         let e = sym settings ∙ not-true good g in
         record { bad_length = λ k. true_false (sym l ∙ k); bad_settings = λ _ _. (refl, refl); checked = λ _ k. true_false (sym k ∙ e) }
 
     module _ (g : not good ≡ false) {marks₁ : List ℕ} (zeros : marks₁ ≡ replicate (length marks) 0) where
       pub check_ready : {places groups : ℕ} → places ≡ places_in (length dots) → groups ≡ groups_in (length nodes)
-          → CheckReady s nodes dots rects marks₁ places groups
+          → CheckReady s (holding nodes dots rects) marks₁ places groups
       check_ready p q =
           let stated = lengths-stated _ _ _ _ (sym lengths ∙ not-false fit n) in
           let z : (j : ℕ) → get_or marks₁ j 0 ≡ 0 = λ j. ap (λ (y : List ℕ). get_or y j 0) zeros ∙ zero-at (length marks) j in
@@ -157,7 +158,7 @@ module _ (s : State) (nodes dots : List ℕ) (rects : List ℤ) (marks : List �
           }
 
       checked-by : (tree : Bool) → Decided (world s nodes dots rects marks) tree → (marks' : List ℕ) → marks' ≡ replicate (length marks) 0
-          → Checked s nodes dots rects marks marks' (answer_of tree)
+          → Checked s (holding nodes dots rects) marks marks' (answer_of tree)
       unfolding Decided answer_of
       checked-by true t marks' m =
           let e = sym settings ∙ not-false good g in
@@ -167,7 +168,8 @@ module _ (s : State) (nodes dots : List ℕ) (rects : List ℤ) (marks : List �
           record { bad_length = λ k. true_false (sym l ∙ k); bad_settings = λ _ k. true_false (sym e ∙ k); checked = λ _ _. (m, inr (refl, t)) }
 
       pub by-decided : (tree : Bool) (marks₂ marks' : List ℕ) (answer : ℕ) → Decided (world s nodes dots rects marks₁) tree → length marks₁ ≡ length marks
-          → length marks₂ ≡ length marks₁ → marks' ≡ replicate (length marks₂) 0 → answer ≡ answer_of tree → Checked s nodes dots rects marks marks' answer
+          → length marks₂ ≡ length marks₁ → marks' ≡ replicate (length marks₂) 0 → answer ≡ answer_of tree
+          → Checked s (holding nodes dots rects) marks marks' answer
       by-decided tree marks₂ marks' answer t same₁ same₂ m a =
           let known = told-marks s nodes dots rects marks₁ marks same₁ tree t in
           rw a (checked-by tree known marks' (m ∙ ap (λ (n : ℕ). replicate {A = ℕ} n 0) (same₂ ∙ same₁)))

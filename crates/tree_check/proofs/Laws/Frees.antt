@@ -3,7 +3,7 @@
 --     empty-read, free-read    the tests of a leaf and of a group, by the words that are read
 --     free-places      the free groups are the same whatever the places hold
 --     FreeLeft         the loop: what is left to check is good just where the whole is
---     free-start, free-next        before the loop all is left; one group more
+--     free-next        one group more
 --     free-short, free-none, free_seen, free_bad, free_end, free-last     the answer: too many, no group, a marked one, words that are not free; at the end
 use Rattle.std.specs.Prelude.{◌≡◌, Bool, true, false, Some, None, not, ◌&&◌, ℕ, zero, suc, ◌+◌, ◌-◌, ◌≤◌, ◌<◌, length, get_or, set, eqb}
 use Rattle.std.proofs.Math.Path.{refl}
@@ -108,11 +108,6 @@ pub record FreeLeft (m : Mem) (marks : List ℕ) (places groups head most : ℕ)
       × ((j : ℕ) → j < groups → group_mark places marks j + count j free ≡ group_mark places marks' j + count j rest)
   pub forth : (free : List ℕ) → FreeGood m marks places groups head most free → (rest : List ℕ) × FreeGood m marks' places groups link left rest
   pub kept : (j : ℕ) → j < places → get_or marks' j 0 ≡ get_or marks j 0
-
-pub free-start : (m : Mem) (marks : List ℕ) (places groups head most : ℕ) → MarksReady marks places groups
-    → FreeLeft m marks places groups head most marks head most
-free-start m marks places groups head most ready =
-    record { ready = ready; size = refl; back = λ rest x. (rest, x, λ j b. refl); forth = λ free x. (free, x); kept = λ j b. refl }
 
 module _ {m : Mem} {marks : List ℕ} {places groups head most : ℕ} {marks' : List ℕ} {link left : ℕ}
     (l : FreeLeft m marks places groups head most marks' link left) where

@@ -2,7 +2,7 @@
 --     no-children      with no child left there is nothing to check
 --     child_bad        a child that is not good
 --     child-scanned    a good child, marked: the answer is that of the others
---     Ahead            a group between two children; ahead-start, ahead-empty, ahead-next, ahead_bad, ahead-end: the loop over them
+--     Ahead            a group between two children; ahead-empty, ahead-next, ahead_bad, ahead-end: the loop over them
 use Rattle.std.specs.Prelude.{◌≡◌, refl, List, [], Bool, not, ℕ, ◌+◌, ◌-◌, ◌≤◌, ◌<◌, ℤ, length}
 use Rattle.std.proofs.Common.{ap, sym, ◌∙◌, subst, not-suc-le-zero, arith}
 use Rattle.std.proofs.Math.Bool.{true, false}
@@ -11,6 +11,7 @@ use Rattle.model.proofs.Laws.Sums.{sum_below_ext, changed-same, changed_other, c
 use Rattle.model.specs.Trees.{Tree, leaf, child_node, place_count, group_count}
 use Rattle.model.specs.Memory.{Mem, read, Represents}
 use Rattle.model.proofs.Laws.Pattern.{one-tree}
+use Rattle.memory.specs.Lent.{holding}
 use Rattle.tree_check.specs.declared.region.Region.{Region}
 use Rattle.tree_check.specs.Regions.{region_below}
 use Rattle.tree_check.specs.Marks.{Once, MarksReady}
@@ -124,15 +125,11 @@ no-children r m marks places groups group left ready z =
 
 -- what is left to check leads to the whole
 pub record Ahead (r : Region) (nodes dots : List ℕ) (rects : List ℤ) (places groups group : ℕ) (marks₀ marks : List ℕ) (left : ℕ) : Type 0 where
-  pub ready : TreeReady nodes dots rects marks places groups
+  pub ready : TreeReady (holding nodes dots rects) marks places groups
   pub five : left ≤ 5
   pub size : length marks ≡ length marks₀
   pub whole : (marks' : List ℕ) (answer : Bool) → GroupScanned r (read nodes dots rects) marks places groups group left marks' answer
       → GroupScanned r (read nodes dots rects) marks₀ places groups group 5 marks' answer
-
-pub ahead-start : (r : Region) (nodes dots : List ℕ) (rects : List ℤ) (places groups group : ℕ) (marks₀ : List ℕ)
-    → TreeReady nodes dots rects marks₀ places groups → Ahead r nodes dots rects places groups group marks₀ marks₀ 5
-ahead-start r nodes dots rects places groups group marks₀ ready = record { ready = ready; five = omega arith; size = refl; whole = λ marks' answer g. g }
 
 -- by what the code reads of the last child
 module _ {r : Region} {nodes dots : List ℕ} {rects : List ℤ} {places groups group : ℕ} {marks₀ marks : List ℕ} {left : ℕ}

@@ -18,6 +18,7 @@ use Rattle.model.specs.Memory.{Mem, read, Chained, Represented}
 use Rattle.model.proofs.Laws.Shapes.{below_yes, below-no, below-le, live-and_free, distinct-length}
 use Rattle.model.proofs.Laws.Memory.{holds-represented, represented-holds}
 use Rattle.model.proofs.Laws.Pattern.{one-chain, one-tree, one_free, length-blank}
+use Rattle.memory.specs.Lent.{holding}
 use Rattle.tree_check.specs.Regions.{root_region, is_blank}
 use Rattle.tree_check.specs.Chains.{place_memory, ChainGood, ChainFound}
 use Rattle.tree_check.specs.Frees.{node_memory, FreeGood, FreeFound}
@@ -29,7 +30,7 @@ use Rattle.tree_check.proofs.Laws.Trees.{fine-legible}
 use Rattle.tree_check.proofs.Laws.Regions.{root-fine, fine-root, all-blank, blanks_are}
 
 module _ (s : State) (nodes dots : List ℕ) (rects : List ℤ) (marks : List ℕ) (places groups : ℕ)
-    (ready : CheckReady s nodes dots rects marks places groups) where
+    (ready : CheckReady s (holding nodes dots rects) marks places groups) where
   abbrev W : World
   W = world s nodes dots rects marks
 

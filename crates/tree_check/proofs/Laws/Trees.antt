@@ -1,6 +1,6 @@
 -- The check of a node: a leaf by its chain, a branch by its group; each way by what the code reads.
 --     fine-legible        a fine tree is told by its words
---     chain-ready, ready_again, marked-ready       what a chain, what the next walk is given
+--     ready_again, marked-ready       what the next walk is given
 --     group-given      what a group is given
 --     tree_yes, tree-no        what a walk's answer says
 --     empty-found      an empty leaf is good
@@ -26,12 +26,13 @@ use Rattle.model.specs.Memory.{Mem, read, Chained}
 use Rattle.model.proofs.Laws.Pattern.{Legible}
 use Rattle.memory.specs.declared.node.Node.{Node}
 use Rattle.memory.specs.Nodes.{node_at}
+use Rattle.memory.specs.Lent.{Held, holding}
 use Rattle.tree_check.specs.declared.region.Region.{Region}
 use Rattle.tree_check.specs.declared.region.Gate.TheVariants.{Leaf}
 use Rattle.tree_check.specs.Regions.{passes, region_below}
 use Rattle.tree_check.specs.Marks.{group_mark, MarksReady}
 use Rattle.tree_check.proofs.Laws.Marks.{group-added, marks-ready, places-kept, once-one, once-rest, once-whole, added-whole}
-use Rattle.tree_check.specs.Chains.{place_memory, ChainReady, ChainGood, ChainFound, ChainScanned}
+use Rattle.tree_check.specs.Chains.{place_memory, ChainGood, ChainFound, ChainScanned}
 use Rattle.tree_check.proofs.Laws.Chains.{chain-nodes}
 use Rattle.tree_check.specs.Frees.{GroupAt, empty_at}
 use Rattle.tree_check.proofs.Laws.Frees.{empty-is}
@@ -42,13 +43,9 @@ pub fine-legible : (r : Region) (t : Tree) → Fine r t → Legible t
 fine-legible r (leaf c) v = v.2
 fine-legible r (branch g f) v = ((λ i b. fine-legible (region_below r i) (f i) (v.1 i b)), v.2)
 
-pub chain-ready : {nodes dots : List ℕ} {rects : List ℤ} {marks : List ℕ} {places groups : ℕ} → TreeReady nodes dots rects marks places groups
-    → ChainReady dots rects marks places
-chain-ready r = record { dot_room = r.dot_room; rect_room = r.rect_room; mark_room = omega (arith, r.mark_ready.room); bits = r.mark_ready.bits }
-
 -- the same rows, with other marks
-pub ready_again : {nodes dots : List ℕ} {rects : List ℤ} {marks marks' : List ℕ} {places groups : ℕ} → TreeReady nodes dots rects marks places groups
-    → MarksReady marks' places groups → TreeReady nodes dots rects marks' places groups
+pub ready_again : {h : Held} {marks marks' : List ℕ} {places groups : ℕ} → TreeReady h marks places groups → MarksReady marks' places groups
+    → TreeReady h marks' places groups
 ready_again r marked =
     record {
       node_room = r.node_room;
@@ -60,9 +57,9 @@ ready_again r marked =
     }
 
 -- the same with a group marked
-pub marked-ready : {nodes dots : List ℕ} {rects : List ℤ} {marks : List ℕ} {places groups group : ℕ} → TreeReady nodes dots rects marks places groups
-    → group < groups → group_mark places marks group ≡ 0 → TreeReady nodes dots rects (set marks (places + group) 1) places groups
-marked-ready {nodes} {dots} {rects} {marks} {places} {groups} {group} ready b unmarked =
+pub marked-ready : {h : Held} {marks : List ℕ} {places groups group : ℕ} → TreeReady h marks places groups → group < groups
+    → group_mark places marks group ≡ 0 → TreeReady h (set marks (places + group) 1) places groups
+marked-ready {marks = marks} {places} {groups} {group} ready b unmarked =
     ready_again ready (marks-ready marks places groups group ready.mark_ready b unmarked)
 
 pub group-given : {r : Region} {splits : Bool} {groups group : ℕ} → Sound r → splits ≡ may_split r.settings r.node → not splits ≡ false → group < groups
@@ -85,7 +82,7 @@ module _ {r r' : Region} (same : r ≡ r') (m : Mem) (marks marks' : List ℕ) (
   tree-no n = scanned-at (not-true answer n)
 
 module _ (r : Region) (nodes dots : List ℕ) (rects : List ℤ) (marks : List ℕ) (places groups a : ℕ)
-    (ready : TreeReady nodes dots rects marks places groups) where
+    (ready : TreeReady (holding nodes dots rects) marks places groups) where
   abbrev M : Mem
   M = read nodes dots rects
 

@@ -1,13 +1,10 @@
-use Rattle.std.proofs.Common.{arith, rules, ◌+◌, ◌≤◌}
-use Rattle.tree_cleanup.proofs.Laws.Nodes.{walked_in, leaf-cleaned, branch_in, branch-first, branch-level, branch-room, branch-group}
+use Rattle.std.proofs.Common.{arith, rules, ◌≤◌}
+use Rattle.tree_cleanup.proofs.Laws.Nodes.{walked_in, leaf-cleaned, branch_in, branch-first, branch-level, branch-group}
 use Rattle.tree_cleanup.proofs.Laws.Nodes.{turned-cleaned, branch-cleaned}
-use Rattle.tree_cleanup.proofs.Laws.Groups.{ahead-start, ahead-node, ahead-next, ahead_end}
+use Rattle.tree_cleanup.proofs.Laws.Groups.{ahead-node, ahead-next, ahead_end}
 use Rattle.tree_cleanup.proofs.+clean_group_clean_node.Goals as goal
 
 -- ---- a group
-
-pub clean_group-loop-child-init : goal.clean_group-loop-child-init
-clean_group-loop-child-init t c = search (ahead-start, rules)
 
 pub clean_group-clean_node-next-requires : goal.clean_group-clean_node-next-requires
 clean_group-clean_node-next-requires t c = (omega arith, search (ahead-node, rules))
@@ -31,11 +28,6 @@ clean_node-is_empty_group-requires t c = search (branch_in, rules)
 
 pub clean_node-turn-requires : goal.clean_node-turn-requires
 clean_node-turn-requires t c = search (walked_in, branch-first)
-
-pub clean_node-overflow_add-result : goal.clean_node-overflow_add-result
-clean_node-overflow_add-result t c =
-    let room : c.args.swept.turned + 1 ≤ 81921 = search branch-room in
-    omega arith
 
 pub clean_node-returns-then-is_empty_group : goal.clean_node-returns-then-is_empty_group
 clean_node-returns-then-is_empty_group t c = search (turned-cleaned, rules)

@@ -1,5 +1,5 @@
 -- The search finds a branch whose five children are empty just where a cleanup says yes.
---     branch-asks, leaf-read, branch_read  the test of a node, by the words that are read
+--     leaf-read, branch_read       the test of a node, by the words that are read
 --     searched     what the search of all nodes says
 --     searchable   the row of a memory that is a tree can be searched
 --     searched-cleans      what the search says is what a cleanup would
@@ -31,8 +31,8 @@ use Rattle.memory.specs.Rows.{HasNode}
 use Rattle.tree.specs.Trees.{node_count, TreeStands}
 use Rattle.tree.specs.Operations.{HasTree}
 use Rattle.tree.proofs.Laws.Paths.{nodes-groups, node-zero}
-use Rattle.tree.proofs.Laws.Trees.{is-branch, mark-no_leaf, child-stands, root_stands}
-use Rattle.tree_cleanup.specs.Walks.{HasGroup, empty_group}
+use Rattle.tree.proofs.Laws.Trees.{mark-no_leaf, child-stands, root_stands}
+use Rattle.tree_cleanup.specs.Walks.{empty_group}
 use Rattle.tree_cleanup.specs.EmptyBranches.{empty_branch, Searchable, Searched}
 use Rattle.tree_cleanup.proofs.Laws.Nodes.{group-there, group_empty}
 
@@ -47,9 +47,6 @@ module _ (nodes : List ℕ) (a : ℕ) {node : Node} {b : Bool} (words : node ≡
   leaf-read n = rw (mark-same ∙ not-true b n) refl
 
   module _ (n : not b ≡ false) where
-    pub branch-asks : HasNode nodes a → Searchable nodes → HasGroup nodes node.first
-    branch-asks has s = subst (λ (x : Node). HasGroup nodes x.first) (sym words) (s.groups a has (is-branch nodes a words told n))
-
     pub branch_read : {empty : Bool} → empty ≡ empty_group nodes node.first → empty ≡ empty_branch nodes a
     unfolding empty_branch
     branch_read e = rw (mark-same ∙ not-false b n) (e ∙ ap (λ (x : Node). empty_group nodes x.first) words)

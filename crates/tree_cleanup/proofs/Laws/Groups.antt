@@ -2,7 +2,7 @@
 --     group-none   no child is left
 --     group-node, last_in, group-rest      the last child of those left, in the row; then the others
 --     group-cleaned        what the two walks leave together
---     Ahead, ahead-start, ahead-node, ahead-next, ahead_end     the loop over the children: its begin, a child's walk, a turn, its end
+--     Ahead, ahead-node, ahead-next, ahead_end     the loop over the children: a child's walk, a turn, its end
 use Rattle.std.specs.Prelude.{◌≡◌, refl, List, ℕ, suc, ◌+◌, ◌-◌, ◌≤◌, ◌<◌, ℤ, length}
 use Rattle.std.proofs.Math.Path.{ap, sym, subst}
 use Rattle.std.proofs.Common.{◌∙◌, le_refl, arith}
@@ -149,10 +149,6 @@ module _ (nodes : List ℕ) (swept : Swept) (first levels left : ℕ) (some : le
 pub record Ahead (nodes₀ : List ℕ) (swept₀ : Swept) (first levels : ℕ) (nodes : List ℕ) (swept : Swept) (left : ℕ) : Type 0 where
   pub asks : GroupToClean nodes swept first levels left
   pub whole : (nodes' : List ℕ) (r : Swept) → GroupCleaned nodes swept first levels left nodes' r → GroupCleaned nodes₀ swept₀ first levels 5 nodes' r
-
-pub ahead-start : {nodes : List ℕ} {swept : Swept} {first levels : ℕ} → GroupToClean nodes swept first levels 5
-    → Ahead nodes swept first levels nodes swept 5
-ahead-start w = record { asks = w; whole = λ nodes' r g. g }
 
 module _ {nodes₀ : List ℕ} {swept₀ : Swept} {first levels : ℕ} {nodes : List ℕ} {swept : Swept} {left : ℕ}
     (a : Ahead nodes₀ swept₀ first levels nodes swept left) where

@@ -2,7 +2,7 @@
 --     walked_in    a node that is walked is in the row
 --     group-there, group_empty     the group of a branch is in the row; the test of it says whether the five children are empty
 --     leaf-cleaned         a leaf stays
---     branch_in, branch-first, branch-level, branch-room   a branch: its group is in the row, a level is left, one turned branch more can be counted
+--     branch_in, branch-first, branch-level        a branch: its group is in the row, a level is left
 --     turned-cleaned       a branch with five empty children is turned
 --     branch-group, branch-cleaned         any other hands its group on
 use Rattle.std.specs.Prelude.{◌≡◌, refl, ◌≢◌, List, Bool, true, false, not, ◌&&◌, ℕ, zero, suc, ◌+◌, ◌-◌, ◌≤◌, ◌<◌, ℤ}
@@ -26,7 +26,8 @@ use Rattle.tree.specs.Trees.{node_count, node_total, NodesIn}
 use Rattle.tree.specs.Cleanup.{collapse, clean_words, TreeAndFree}
 use Rattle.tree.proofs.Laws.Trees.{not-branch, is-branch, node_in-row, mark-no_leaf, shallow-branch}
 use Rattle.tree_cleanup.specs.declared.Swept.{Swept}
-use Rattle.tree_cleanup.specs.Walks.{HasGroup, empty_group, turned_nodes, walk_of, Fits, Cleaned, NodeToClean, NodeCleaned, ChildrenAndFree, clean_children, GroupToClean, GroupCleaned}
+use Rattle.tree_cleanup.specs.Walks.{HasGroup, empty_group, turned_nodes, walk_of, Fits, Cleaned, NodeToClean, NodeCleaned}
+use Rattle.tree_cleanup.specs.Walks.{ChildrenAndFree, clean_children, GroupToClean, GroupCleaned}
 
 -- ---- five zeros make a zero
 
@@ -203,9 +204,6 @@ module _ (nodes : List ℕ) (swept : Swept) (a levels : ℕ) {node : Node} {b : 
 
       pub branch-level : 1 ≤ levels
       branch-level = (asked w).level
-
-      pub branch-room : swept.turned + 1 ≤ 81921
-      branch-room = (asked w).room
 
       pub branch-group : GroupToClean nodes swept node.first (levels - 1) 5
       branch-group = (asked w).group

@@ -106,7 +106,8 @@ module _ (s : State) (nodes : List ℕ) where
 
   -- ---- no change more can be counted
 
-  pub refused-cleaned : {fits found : Bool} → fits ≡ can_count s 1 → not fits ≡ true → Searched nodes found → found ≡ true → CleanedUp s nodes nodes (Err TooManyChanges)
+  pub refused-cleaned : {fits found : Bool} → fits ≡ can_count s 1 → not fits ≡ true → Searched nodes found → found ≡ true
+      → CleanedUp s nodes nodes (Err TooManyChanges)
   unfolding CleanedUp cleanup_rule
   refused-cleaned {found = found} told past f some = λ dots rects marks x h.
       refused-exit s nodes dots rects marks (cleanup_rule x) TooManyChanges

@@ -1,12 +1,8 @@
 -- The walk from the root, and the state with the head that it leaves; or, where no change more can be counted, the search.
-use Rattle.std.proofs.Common.{ap, not, rules, sym, ◌∙◌}
-use borrow.Author.Tests.{not-false}
+use Rattle.std.proofs.Common.{rules}
 use Rattle.tree_cleanup.proofs.Laws.EmptyBranches.{searchable}
 use Rattle.tree_cleanup.proofs.Laws.Roots.{root-walk, refused-cleaned, no-cleaned, none-turned, some-turned}
 use Rattle.tree_cleanup.proofs.cleanup_tree.Goals as goal
-
-pub changed-next-requires : goal.changed-next-requires
-changed-next-requires c = sym c.can_count.ensures ∙ not-false _ (ap not c.if-not-can_count.false)
 
 pub has_empty_branch-requires : goal.has_empty_branch-requires
 has_empty_branch-requires c = search (rules, searchable)

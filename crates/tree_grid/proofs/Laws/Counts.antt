@@ -1,9 +1,10 @@
 -- Sums added to the words of a row.
---     added_none, added-same, added_then       nothing; the same sums by another name; one sum after another
---     Adding, add_start, add-room, add-more, add_end           the loop over the words from a place on
---     AddingRows, rows_start, rows_room, rows_more, rows_end   the loop over the rows of windows
-use Rattle.std.specs.Prelude.{◌≡◌, refl, ◌≢◌, List, Bool, true, false, cond, ◌&&◌, ℕ, ◌+◌, ◌*◌, ◌/◌, ◌%◌, ◌≤◌, ◌<◌, max, leb, length, get_or, set}
-use Rattle.std.proofs.Common.{ap, sym, ◌∙◌, mul-le-mul_left, mul-suc, mod-lt, le-div_iff_mul-le, mul_comm, add-one, arith, lt-ltb, le-ltb, le-leb, length-set, get_or-set_same, get_or-set_other}
+--     added_then   one sum after another
+--     Adding       the loop over the words from a place on
+--     AddingRows, rows_room, rows_more     the loop over the rows of windows
+use Rattle.std.specs.Prelude.{◌≡◌, refl, List, true, false, cond, ℕ, ◌+◌, ◌*◌, ◌/◌, ◌%◌, ◌≤◌, ◌<◌, max, leb, length}
+use Rattle.std.proofs.Common.{ap, sym, ◌∙◌, mul-le-mul_left, mul-suc, mod-lt, le-div_iff_mul-le, mul_comm, add-one, arith}
+use Rattle.std.proofs.Common.{lt-ltb, le-ltb, le-leb}
 use Rattle.std.proofs.Math.Nat.{div-add-mod}
 use Rattle.std.proofs.Math.Decide.{ℕ_discrete, dec_lt}
 use Rattle.std.proofs.lemmas.Bool.{lt-leb}
@@ -12,12 +13,6 @@ use Rattle.std.specs.declared.ops.Range.{Range}
 use Rattle.grid.specs.Spans.{in_span}
 use Rattle.model.proofs.Laws.Sums.{by_dec}
 use Rattle.tree_grid.specs.Counts.{Added, Room, between, cells}
-
-pub added_none : (row : List ℕ) {sum : ℕ → ℕ} → ((i : ℕ) → sum i ≡ 0) → Added row sum row
-added_none row none = record { same_length = refl; each = λ i b. omega (arith, none i) }
-
-pub added-same : {row row' : List ℕ} {f : ℕ → ℕ} (g : ℕ → ℕ) → ((i : ℕ) → i < length row → f i ≡ g i) → Added row f row' → Added row g row'
-added-same g e a = record { same_length = a.same_length; each = λ i b. omega (arith, a.each i b, e i b) }
 
 pub added_then : {row row' row'' : List ℕ} {f g : ℕ → ℕ} (h : ℕ → ℕ) → ((i : ℕ) → i < length row → f i + g i ≡ h i)
     → Added row f row' → Added row' g row'' → Added row h row''
@@ -43,65 +38,6 @@ pub record Adding (row₀ : List ℕ) (from to weight : ℕ) (row : List ℕ) (i
   pub begun : from ≤ i
   pub within : i ≤ max from to
   pub added : Added row₀ (between from i weight) row
-
-pub add_start : (row : List ℕ) (from to weight : ℕ) → Adding row from to weight row from
-add_start row from to weight = record {
-  begun = omega arith;
-  within = omega arith;
-  added = added_none row (λ i. by_dec (dec_lt i from) (λ h. between-before from from weight i h) (λ h. between_past from from weight i (omega arith)));
-}
-
-module _ {row₀ row : List ℕ} {from to weight i : ℕ} (s : Adding row₀ from to weight row i) (h : i < to) where
-  pub add-room : to ≤ length row₀ → Room from to weight row₀ → get_or row i 0 + weight ≤ 4294967295
-  add-room fits room =
-      omega (arith, s.added.each i (omega arith), between_past from i weight i (omega arith), room i s.begun h)
-
-  pub add-more : to ≤ length row₀ → Adding row₀ from to weight (set row i (get_or row i 0 + weight)) (i + 1)
-  add-more fits = record {
-    begun = omega (arith, s.begun);
-    within = omega arith;
-    added = record {
-      same_length = length-set row i (get_or row i 0 + weight) ∙ s.added.same_length;
-      each = λ j b.
-          by_dec (ℕ_discrete j i)
-          (λ e.
-          let here : get_or (set row i (get_or row i 0 + weight)) j 0 ≡ get_or row i 0 + weight =
-          ap (λ (k : ℕ). get_or (set row i (get_or row i 0 + weight)) k 0) e
-          ∙ get_or-set_same row i (get_or row i 0 + weight) 0 (omega (arith, s.added.same_length)) in
-          let was : get_or row j 0 ≡ get_or row i 0 = ap (λ (k : ℕ). get_or row k 0) e in
-          omega (
-            arith,
-            here,
-            was,
-            s.added.each j b,
-            between_past from i weight j (omega arith),
-            between_in from (i + 1) weight j (omega (arith, s.begun)) (omega arith),
-          ))
-          (λ ne.
-          omega (arith, get_or-set_other row i j (get_or row i 0 + weight) 0 ne, s.added.each j b, later j ne));
-    };
-  }
-    where
-      later : (j : ℕ) → j ≢ i → between from (i + 1) weight j ≡ between from i weight j
-      later j ne =
-          by_dec (dec_lt j i)
-          (λ l.
-          by_dec (dec_lt j from)
-          (λ k. between-before from (i + 1) weight j k ∙ sym (between-before from i weight j k))
-          (λ k. between_in from (i + 1) weight j (omega arith) (omega arith) ∙ sym (between_in from i weight j (omega arith) l)))
-          (λ l. between_past from (i + 1) weight j (omega arith) ∙ sym (between_past from i weight j (omega arith)))
-
-pub add_end : {row₀ row : List ℕ} {from to weight i : ℕ} → Adding row₀ from to weight row i → to ≤ i → Added row₀ (between from to weight) row
-add_end {row₀} {row} {from} {to} {weight} {i} s h =
-    added-same (between from to weight)
-    (λ j b.
-    by_dec (dec_lt j from)
-    (λ k. between-before from i weight j k ∙ sym (between-before from to weight j k))
-    (λ k.
-    by_dec (dec_lt j to)
-    (λ l. between_in from i weight j (omega arith) (omega arith) ∙ sym (between_in from to weight j (omega arith) l))
-    (λ l. between_past from i weight j (omega (arith, s.within)) ∙ sym (between_past from to weight j (omega arith)))))
-    s.added
 
 -- ---- the rows of windows
 
@@ -200,16 +136,6 @@ pub record AddingRows (row₀ : List ℕ) (columns : ℕ) (across down : Range �
   pub within : line ≤ max down.start down.end
   pub added : Added row₀ (cells columns across (span_of down.start line) weight) row
 
-pub rows_start : (row : List ℕ) (columns : ℕ) (across down : Range ℕ) (weight : ℕ) → AddingRows row columns across down weight row down.start
-rows_start row columns across down weight = record {
-  begun = omega arith;
-  within = omega arith;
-  added = added_none row (λ i. cells-none columns across (span_of down.start down.start) weight i (nothing down.start (i / columns)));
-}
-  where
-    nothing : (n k : ℕ) → in_span (span_of n n) k ≡ false
-    nothing n k = by_dec (dec_lt k n) (λ h. in_before (span_of n n) k h) (λ h. in_past (span_of n n) k (omega arith))
-
 module _ {row₀ row : List ℕ} {columns : ℕ} {across down : Range ℕ} {weight line : ℕ} (some : 1 ≤ columns) (narrow : across.end ≤ columns)
     (s : AddingRows row₀ columns across down weight row line) (h : line < down.end) where
   -- the row's words end within the rows of the span
@@ -236,18 +162,3 @@ module _ {row₀ row : List ℕ} {columns : ℕ} {across down : Range ℕ} {weig
     added = added_then (cells columns across (span_of down.start (line + 1)) weight)
         (λ i b. cells-more columns some across narrow weight i line down.start s.begun) s.added a;
   }
-
-pub rows_end : {row₀ row : List ℕ} {columns : ℕ} {across down : Range ℕ} {weight line : ℕ} → AddingRows row₀ columns across down weight row line
-    → down.end ≤ line → Added row₀ (cells columns across down weight) row
-rows_end {columns = columns} {across} {down} {weight} {line} s h =
-    added-same (cells columns across down weight) (λ i b. ap (λ (t : Bool). cond (in_span across (i % columns) && t) weight 0) (same (i / columns))) s.added
-  where
-    same : (k : ℕ) → in_span (span_of down.start line) k ≡ in_span down k
-    same k =
-        let now = span_of down.start line in
-        by_dec (dec_lt k down.start)
-        (λ l. in_before now k l ∙ sym (in_before down k l))
-        (λ l.
-        by_dec (dec_lt k down.end)
-        (λ m. in_within now k (omega arith) (omega arith) ∙ sym (in_within down k (omega arith) m))
-        (λ m. in_past now k (omega (arith, s.within)) ∙ sym (in_past down k (omega arith))))

@@ -1,9 +1,8 @@
 -- All places of a memory, with the zero rectangles set apart.
 --     besides-zero         a weight over all rectangles, by those that are not zero and the number of those that are
---     step-zero, step-add  one place
---     Passing, pass-start, place-asks, pass-room, pass-more, pass_end  the loop over the places
+--     Passing, place-asks, pass-room, pass-more    the loop over the places
 use Rattle.std.specs.Prelude.{◌≡◌, refl, List, Bool, true, false, cond, ℕ, zero, suc, ◌+◌, ◌*◌, ◌≤◌, ◌<◌, ℤ, length}
-use Rattle.std.proofs.Common.{ap, subst, sym, ◌∙◌, add-mul, add-one, arith}
+use Rattle.std.proofs.Common.{ap, subst, sym, add-mul, add-one, arith}
 use Rattle.arithmetic.proofs.Laws.Tests.{by_bool}
 use Rattle.geometry.specs.declared.aabb.AABB.{AABB}
 use Rattle.geometry.specs.Rectangles.{same_rect, zero_rect}
@@ -14,9 +13,9 @@ use Rattle.model.specs.Memory.{rect_at}
 use Rattle.model.proofs.Laws.Sums.{sum_below-le, sum_below-mul, sum_below-one}
 use Rattle.model.proofs.Laws.Dots.{same_rect_true}
 use Rattle.tree_grid.specs.declared.places.Pass.{Pass}
-use Rattle.tree_grid.specs.Counts.{Added, Room, Empty, weight_of, met_by, besides, zero_is, Stepped, Passed}
+use Rattle.tree_grid.specs.Counts.{Room, Empty, weight_of, met_by, besides, zero_is, Stepped, Passed}
 use Rattle.tree_grid.proofs.Laws.Rects.{weight_le, met-few}
-use Rattle.tree_grid.proofs.Laws.Counts.{added_none, added-same, added_then}
+use Rattle.tree_grid.proofs.Laws.Counts.{added_then}
 
 -- of the first n rectangles f
 pub besides-zero : (h : AABB → ℕ) (f : ℕ → AABB) (n : ℕ)
@@ -32,43 +31,11 @@ besides-zero h f (suc n) =
 sum_below-next : (n : ℕ) (f : ℕ → ℕ) → sum_below (n + 1) f ≡ sum_below n f + f n
 sum_below-next n f = rw add-one refl
 
--- ---- one place
-
-module _ (g : Grid) (r : AABB) (row : List ℕ) {b : Bool} (told : b ≡ same_rect r zero_rect) where
-  pub step-zero : b ≡ true → (pass : Pass) → Stepped g r row row pass (record { total = pass.total; zeros = pass.zeros + 1 })
-  step-zero e pass =
-      let is : same_rect r zero_rect ≡ true = sym told ∙ e in
-      let none : (k : AABB → ℕ) → besides k r ≡ 0 = λ k. rw is refl in
-      let one : zero_is r ≡ 1 = rw is refl in
-      record {
-        counts = added_none row (λ i. none (λ q. weight_of g q 1 i));
-        totals = omega (arith, none (met_by g));
-        left_out = omega (arith, one);
-      }
-
-  pub step-add : b ≡ false → (pass : Pass) (row' : List ℕ) (met : ℕ) → Added row (weight_of g r 1) row' × (met ≡ 1 * met_by g r)
-      → Stepped g r row row' pass (record { total = pass.total + met; zeros = pass.zeros })
-  step-add e pass row' met did =
-      let is : same_rect r zero_rect ≡ false = sym told ∙ e in
-      let own : (k : AABB → ℕ) → besides k r ≡ k r = λ k. rw is refl in
-      let none : zero_is r ≡ 0 = rw is refl in
-      record {
-        counts = added-same (λ i. besides (λ q. weight_of g q 1 i) r) (λ i l. sym (own (λ q. weight_of g q 1 i))) did.0;
-        totals = omega (arith, did.1, own (met_by g));
-        left_out = omega (arith, none);
-      }
-
 -- ---- the places so far
 
 pub record Passing (g : Grid) (rects : List ℤ) (places : ℕ) (row₀ row : List ℕ) (pass : Pass) (i : ℕ) : Type 0 where
   pub within : i ≤ places
   pub passed : Passed g rects i row₀ row pass
-
-pub pass-start : (g : Grid) (rects : List ℤ) (places : ℕ) (row : List ℕ) → Passing g rects places row row (record { total = 0; zeros = 0 }) 0
-pass-start g rects places row = record {
-  within = omega arith;
-  passed = record { counts = added_none row (λ i. refl); totals = refl; left_out = refl };
-}
 
 module _ {g : Grid} {rects : List ℤ} {places : ℕ} {row₀ row : List ℕ} {pass : Pass} {i : ℕ} (s : Passing g rects places row₀ row pass i) where
   -- how large the numbers are
@@ -134,6 +101,3 @@ module _ {g : Grid} {rects : List ℤ} {places : ℕ} {row₀ row : List ℕ} {p
           left_out = omega (arith, s.passed.left_out, here.left_out, sum_below-next i (λ p. zero_is (rect_at rects p)));
         };
       }
-
-  pub pass_end : places ≤ i → Passed g rects places row₀ row pass
-  pass_end h = subst (λ (n : ℕ). Passed g rects n row₀ row pass) (omega (arith, s.within)) s.passed

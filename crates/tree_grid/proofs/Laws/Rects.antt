@@ -1,9 +1,9 @@
 -- One rectangle: what it adds to the counts, and how many windows it meets.
 --     weight_le, columns_few, rows_few, met-few        how large the numbers are
---     rect-asks, rect_adds         the columns and the rows that it meets, as the code has them
---     rect-meets, rect-few, rect-wide, rect_weighs         how many windows these are, and that the words hold the numbers
+--     rect-asks    the columns and the rows that it meets, as the code has them
+--     rect-meets, rect_weighs      how many windows these are, and that the words hold the numbers
 use Rattle.std.specs.Prelude.{◌≡◌, List, Bool, true, false, cond, ◌&&◌, ℕ, ◌*◌, ◌/◌, ◌%◌, ◌^◌, ◌≤◌, ◌<◌, length}
-use Rattle.std.proofs.Common.{ap, ap₂, subst, ◌∙◌, mul-le-mul, mul-le-mul_left, arith}
+use Rattle.std.proofs.Common.{ap, ap₂, ◌∙◌, mul-le-mul, mul-le-mul_left, arith}
 use Rattle.arithmetic.proofs.Laws.Tests.{by_bool}
 use Rattle.geometry.specs.declared.aabb.AABB.{AABB}
 use Rattle.geometry.specs.Rectangles.{flat, same_rect, zero_rect}
@@ -12,7 +12,7 @@ use Rattle.std.specs.declared.ops.Range.{Range}
 use Rattle.grid.specs.Grids.{across, down, columns_of, rows_of, windows, sizes_fit}
 use Rattle.grid.specs.Spans.{in_span, columns_met, rows_met, span_length}
 use Rattle.grid.proofs.Laws.Windows.{sizes, span_met-within}
-use Rattle.tree_grid.specs.Counts.{Added, Room, cells, weight_of, met_by, besides}
+use Rattle.tree_grid.specs.Counts.{Room, weight_of, met_by, besides}
 
 -- it adds at most 1 to a word
 pub weight_le : (g : Grid) (i : ℕ) (r : AABB) → besides (λ q. weight_of g q 1 i) r ≤ 1
@@ -55,21 +55,11 @@ module _ (g : Grid) (r : AABB) {a d : Range ℕ} {n : ℕ} (is-across : a ≡ co
         λ i l b. free i l (omega arith),
       )
 
-  pub rect_adds : (row row' : List ℕ) (weight : ℕ) → n ≡ columns_of g → Added row (cells n a d weight) row' → Added row (weight_of g r weight) row'
-  rect_adds row row' weight columns added =
-      subst (λ (f : ℕ → ℕ). Added row f row') (λ i. cells (columns i) (is-across i) (is_down i) weight) added
-
 -- c and l: how many columns and rows it meets
 module _ (g : Grid) (r : AABB) {a d : Range ℕ} {c l : ℕ} (is-across : a ≡ columns_met g r) (is_down : d ≡ rows_met g r)
     (e : c ≡ span_length a) (f : l ≡ span_length d) where
   pub rect-meets : c * l ≡ met_by g r
   rect-meets = ap₂ ◌*◌ (e ∙ ap span_length is-across) (f ∙ ap span_length is_down)
-
-  pub rect-few : sizes_fit g ≡ true → c * l < 2 ^ 32
-  rect-few fits = omega (arith, rect-meets, met-few g fits r)
-
-  pub rect-wide : sizes_fit g ≡ true → c * l < 2 ^ 64
-  rect-wide fits = omega (arith, rect-few fits)
 
   pub rect_weighs : {weight : ℕ} → sizes_fit g ≡ true → weight ≤ 65536 → weight * (c * l) < 2 ^ 64
   rect_weighs {weight} fits light =

@@ -6,7 +6,8 @@
 --     report_eleven, report-twelve, report-many, report-counted        the answers, by the rule
 use Rattle.std.specs.Prelude.{◌≡◌, List, ◌++◌, Bool, true, false, not, cond, ◌&&◌, ℕ, ◌+◌, ◌*◌, ◌-◌, ◌/◌, ◌%◌, ◌≤◌, ◌<◌, ℤ, length, get_or, replicate}
 use Rattle.std.proofs.Math.Path.{refl, ap, sym}
-use Rattle.std.proofs.Common.{subst, ◌∙◌, add-mul, mul-le-mul, mul_comm, le-div_iff_mul-le, div-lt_iff_lt-mul, mod-lt, arith, length-append, length-drop, ext_get_or, get_or-append-add, get_or-drop}
+use Rattle.std.proofs.Common.{subst, ◌∙◌, add-mul, mul-le-mul, mul_comm, le-div_iff_mul-le, div-lt_iff_lt-mul, mod-lt, arith}
+use Rattle.std.proofs.Common.{length-append, length-drop, ext_get_or, get_or-append-add, get_or-drop}
 use Rattle.std.proofs.Math.Decide.{dec_lt}
 use borrow.Author.Tests.{lt-ltb, le-ltb, not-true, not-false}
 use Rattle.std.proofs.Math.ListN.{take, drop, get_or-append}

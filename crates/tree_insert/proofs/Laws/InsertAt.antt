@@ -15,18 +15,19 @@ use Rattle.model.proofs.Laws.Insert.{insert-sum}
 use Rattle.model.proofs.Laws.Shapes.{live-and_free, valid-height, inserted-valid}
 use Rattle.model.proofs.Laws.Memory.{holds-represented}
 use Rattle.memory.specs.Rows.{set_dot_at}
+use Rattle.memory.specs.Lent.{holding, Held, world_of}
 use Rattle.memory.proofs.Laws.Stores.{node-length, next-length, dot-length, rect-length}
 use Rattle.tree.specs.declared.find.Leaf.{Leaf}
 use Rattle.tree.proofs.Laws.Stored.{stored-holds}
 use Rattle.tree_insert.specs.declared.split.Reached.{Reached}
 use Rattle.tree_insert.specs.SplitDown.{Inserting, CanSplitDown, SplitsDone}
 use Rattle.tree_insert.proofs.Laws.Leaf.{inserting-start}
-use Rattle.tree_insert.specs.Push.{CanPush, pushed_nodes, pushed_dots, pushed_rects}
+use Rattle.tree_insert.specs.Push.{CanPush, pushed_nodes, pushed_dots, pushed_rects, pushed}
 use Rattle.tree_insert.specs.InsertAt.{Starts}
 use Rattle.tree_insert.proofs.Laws.Push.{can_push, push_stored}
 
 module _ {s : State} {dot : Dot} {nodes dots : List ℕ} {rects : List ℤ} {l : Leaf} {splits : ℕ} {marks : List ℕ} {x : Shape}
-    (begun : Starts s dot nodes dots rects l splits marks x) where
+    (begun : Starts s dot (holding nodes dots rects) l splits marks x) where
   pub starts-inserting : Inserting x dot s.free_place nodes dots rects s.free_group l.node l.node_data splits
   starts-inserting = inserting-start begun.holds dot begun.leads begun.needed begun.enough
 
@@ -47,7 +48,7 @@ module _ {s : State} {dot : Dot} {nodes dots : List ℕ} {rects : List ℤ} {l :
     now : Inserting x dot s.free_place nodes₁ dots₁ rects reached.group reached.node done.0 0
     now = done.1 x dot s.free_place refl starts-inserting
 
-    pub starts_push : CanPush nodes₁ dots₁ rects reached.node s.free_place
+    pub starts_push : CanPush (holding nodes₁ dots₁ rects) reached.node s.free_place
     starts_push = can_push now begun.room
 
     -- the state with a head of the free places
@@ -77,15 +78,10 @@ module _ {s : State} {dot : Dot} {nodes dots : List ℕ} {rects : List ℤ} {l :
         (push_stored now begun.room)
 
     -- the same, of the values that the code has
-    pub pushed_holds : {next : ℕ} {s' : State} {nodes' dots' : List ℕ} {rects' : List ℤ} → let p = s.free_place in let node = reached.node in
-        next ≡ next_at dots₁ p → s' ≡ after next → nodes' ≡ pushed_nodes nodes₁ node p → dots'
-        ≡ pushed_dots nodes₁ dots₁ node p dot → rects' ≡ pushed_rects rects p dot
-        → Holds (world s' nodes' dots' rects' (replicate (length marks) 0)) (inserted dot x)
-    pushed_holds {s' = s'} {nodes'} {dots'} {rects'} ex es en ed er =
-        let p = s.free_place in
-        let node = reached.node in
+    pub pushed_holds : {next : ℕ} {s' : State} {h : Held} → let p = s.free_place in
+        next ≡ next_at dots₁ p → s' ≡ after next → h ≡ pushed (holding nodes₁ dots₁ rects) reached.node p dot
+        → Holds (world_of s' h (replicate (length marks) 0)) (inserted dot x)
+    pushed_holds ex es e =
         let zeros : List ℕ = replicate (length marks) 0 in
-        let state : after (next_at dots₁ p) ≡ s' = ap after (sym ex) ∙ sym es in
-        let same : world (after (next_at dots₁ p)) (pushed_nodes nodes₁ node p) (pushed_dots nodes₁ dots₁ node p dot) (pushed_rects rects p dot) zeros
-        ≡ world s' nodes' dots' rects' zeros = λ i. world (state i) (sym en i) (sym ed i) (sym er i) zeros in
-        subst (λ (v : World). Holds v (inserted dot x)) same inserted-holds
+        let state = ap after (sym ex) ∙ sym es in
+        subst (λ (v : World). Holds v (inserted dot x)) (λ i. world_of (state i) (sym e i) zeros) inserted-holds

@@ -28,6 +28,7 @@ use Rattle.model.proofs.Laws.Layout.{holds-settings}
 use Rattle.model.proofs.Laws.Memory.{holds-represented}
 use Rattle.memory.specs.declared.node.Node.{Node}
 use Rattle.memory.specs.Nodes.{node_at}
+use Rattle.memory.specs.Lent.{holding}
 use Rattle.tree.specs.Routes.{leaf_for, LeadsTo}
 use Rattle.tree.proofs.Laws.Routes.{chain_for, path_to, path-reach, path-sub, path-node}
 use Rattle.tree.specs.Paths.{put}
@@ -139,7 +140,7 @@ module _ {s : State} {nodes dots : List ℕ} {rects : List ℤ} {marks : List �
     pub countable : Countable s.settings dots rects node l.node_data
     countable = here-counted.0
 
-    pub needed-is : {needed : Option ℕ} → SplitsTold s.settings nodes dots rects node l.node_data dot.rect s.free_group needed
+    pub needed-is : {needed : Option ℕ} → SplitsTold s.settings (holding nodes dots rects) node l.node_data dot.rect s.free_group needed
         → needed ≡ needed_of (splits_needed dot x) (length x.free_groups)
     needed-is told =
         let e = holds-settings w₀ x h in

@@ -17,6 +17,7 @@ use Rattle.model.specs.Insert.{split_count}
 use Rattle.model.proofs.Laws.Sums.{indicator-same, by_dec}
 use Rattle.model.proofs.Laws.Shapes.{below-no}
 use Rattle.memory.specs.Rows.{HasNode, HasPlace, HasRect, set_dot_at}
+use Rattle.memory.specs.Lent.{holding}
 use Rattle.memory.proofs.Laws.Stores.{dot-length}
 use Rattle.tree.proofs.Laws.Pushes.{push_words, push_holds}
 use Rattle.tree.proofs.Laws.Readings.{dot-stored}
@@ -68,7 +69,7 @@ module _ {x : Shape} {dot : Dot} {place_head : ℕ} {nodes dots : List ℕ} {rec
       by_dec (dec_lt place_head x.places) (λ l. l)
       (λ l. absurd (omega (arith, with_head.places_once p, below-no p x.places (omega (arith, head-is)), indicator-same p)))
 
-  pub can_push : CanPush nodes dots rects node place_head
+  pub can_push : CanPush (holding nodes dots rects) node place_head
   can_push =
       let children = reach-children now.tree now.path now.reach in
       record {
@@ -94,7 +95,8 @@ module _ {x : Shape} {dot : Dot} {place_head : ℕ} {nodes dots : List ℕ} {rec
 
   pub push_stored : let grown = grown_by dot x x.free_groups in
       Stored x.groups x.places
-      (read (pushed_nodes nodes node place_head) (pushed_dots nodes dots node place_head dot) (pushed_rects rects place_head dot)) group_head (next_at dots place_head)
+      (read (pushed_nodes nodes node place_head) (pushed_dots nodes dots node place_head dot) (pushed_rects rects place_head dot))
+      group_head (next_at dots place_head)
       grown.tree grown.free spare
   push_stored =
       let d = placed_in dot x in

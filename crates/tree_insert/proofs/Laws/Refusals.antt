@@ -30,6 +30,7 @@ use Rattle.model.proofs.Laws.Layout.{holds-settings, holds-changes}
 use Rattle.model.proofs.Laws.Memory.{holds-represented}
 use Rattle.memory.specs.declared.node.Node.{Node}
 use Rattle.memory.specs.Nodes.{node_at}
+use Rattle.memory.specs.Lent.{holding}
 use Rattle.tree.specs.declared.find.Leaf.{Leaf}
 use Rattle.tree.specs.Routes.{LeadsTo}
 use Rattle.tree_insert.specs.SplitsNeeded.{needed_of, SplitsTold}
@@ -74,7 +75,7 @@ pub record Counted (s : State) (nodes dots : List ℕ) (rects : List ℤ) (dot :
   pub leads : LeadsTo s.settings nodes dot.rect l
   pub node : Node
   pub words : node ≡ node_at nodes l.node
-  pub tells : SplitsTold s.settings nodes dots rects node l.node_data dot.rect s.free_group needed
+  pub tells : SplitsTold s.settings (holding nodes dots rects) node l.node_data dot.rect s.free_group needed
 
 module _ {s : State} {nodes dots : List ℕ} {rects : List ℤ} {marks : List ℕ} {x : Shape} (h : Holds (world s nodes dots rects marks) x) (dot : Dot) where
   abbrev Refuses : ℕ → Type 0
@@ -143,7 +144,7 @@ module _ {s : State} {nodes dots : List ℕ} {rects : List ℤ} {marks : List �
       unfolding insert_rule
       refuse_16 n = ap counted verdict ∙ counted_past (inserted dot x) [] splits s 1 count more (not-true fits n)
 
-      pub lands : not fits ≡ false → Starts s dot nodes dots rects l splits marks x × (insert_rule dot x ≡ accept (inserted dot x) [] splits)
+      pub lands : not fits ≡ false → Starts s dot (holding nodes dots rects) l splits marks x × (insert_rule dot x ≡ accept (inserted dot x) [] splits)
       unfolding acceptable_dot acceptable insert_rule
       lands n = (
         record {

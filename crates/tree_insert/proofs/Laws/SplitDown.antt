@@ -1,7 +1,7 @@
 -- The splits on the way down.
 --     turn-down, turn-split        one turn of the loop, on the tree
 --     inserting-splits, inserting-on       what a split asks, and where the insert is after it
---     SplittingDown, down-start, down-splits, down-on, down_done   the loop's invariant, its begin, what a split asks, a turn, its end
+--     SplittingDown, down-splits, down-on  the loop's invariant, what a split asks, a turn
 use Rattle.std.specs.Prelude.{◌≡◌, List, [], ◌∷◌, ◌++◌, true, ℕ, suc, zero, ◌-◌, ◌≤◌, ◌<◌, ◌+◌, ℤ}
 use Rattle.std.proofs.Math.Path.{refl, ap, sym, subst}
 use Rattle.std.proofs.Common.{◌∙◌, arith}
@@ -29,7 +29,7 @@ use Rattle.tree.specs.Stored.{Stored}
 use Rattle.tree.specs.Splits.{split_words}
 use Rattle.tree.specs.declared.find.Leaf.{Leaf}
 use Rattle.tree.specs.Paths as paths
-use Rattle.tree_insert.specs.SplitDown.{Ended, ended_from, Inserting, Continues, CanSplitDown, SplitsDone}
+use Rattle.tree_insert.specs.SplitDown.{Ended, ended_from, Inserting, Continues, CanSplitDown}
 use Rattle.tree_insert.specs.LeafSplit.{Splittable, Split}
 use Rattle.tree_insert.proofs.Laws.LeafSplit.{stored-splittable}
 
@@ -187,19 +187,9 @@ pub record SplittingDown (r : AABB) (rects : List ℤ) (nodes₀ dots₀ : List 
   pub dots_kept : length dots ≡ length dots₀
   pub continues : Continues r rects nodes₀ dots₀ head₀ node₀ n₀ left₀ nodes dots head node n left
 
-pub down-start : {r : AABB} {rects : List ℤ} {nodes dots : List ℕ} {head node : ℕ} {n : NodeData} {left : ℕ}
-    → SplittingDown r rects nodes dots head node n left nodes dots head node n left
-down-start = record { nodes_kept = refl; dots_kept = refl; continues = λ x dot place_head e i. i }
-
 module _ {r : AABB} {rects : List ℤ} {nodes₀ dots₀ : List ℕ} {head₀ : ℕ} {l : Leaf} {left₀ : ℕ} (given : CanSplitDown r nodes₀ dots₀ rects head₀ l left₀)
     {nodes dots : List ℕ} {head node : ℕ} {n : NodeData} {left : ℕ}
     (down : SplittingDown r rects nodes₀ dots₀ head₀ l.node l.node_data left₀ nodes dots head node n left) where
-  pub down_done : left ≤ 0 → SplitsDone r nodes₀ dots₀ rects head₀ l left₀ nodes dots (record { node = node; group = head })
-  down_done none_left = (
-    n,
-    λ x dot place_head e i. subst (λ (k : ℕ). Inserting x dot place_head nodes dots rects head node n k) (omega arith) (down.continues x dot place_head e i),
-  )
-
   -- the insert that the function was called for
   now₀ : Inserting given.shape given.dot given.place_head nodes dots rects head node n left
   now₀ = down.continues given.shape given.dot given.place_head given.rect given.inserting

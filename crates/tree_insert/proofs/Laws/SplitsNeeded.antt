@@ -34,6 +34,7 @@ use Rattle.memory.specs.declared.node.Node.{Node}
 use Rattle.memory.specs.Nodes.{node_at}
 use Rattle.memory.specs.Rows.{HasRect}
 use Rattle.memory.specs.Chains.{Passed}
+use Rattle.memory.specs.Lent.{holding}
 use Rattle.tree.specs.Chains.{ChainStands}
 use Rattle.tree.proofs.Laws.Chains.{stands_here}
 use Rattle.tree.proofs.Laws.Descent.{steps_left, steps_fall}
@@ -158,7 +159,7 @@ module _ {s : Settings} {nodes dots : List ℕ} {rects : List ℤ} {node : Node}
     one : 1 ≤ s.smallest_cell
     one = (accepted s given.settings).cell
 
-    pub need_done : full? ≡ false → SplitsTold s nodes dots rects node n₀ r head (Some splits)
+    pub need_done : full? ≡ false → SplitsTold s (holding nodes dots rects) node n₀ r head (Some splits)
     need_done not k levels₀ high free listed =
         let c = counting.all k levels₀ high in
         let stays : must_split s n c.chain ≡ false =
@@ -203,7 +204,7 @@ module _ {s : Settings} {nodes dots : List ℕ} {rects : List ℤ} {node : Node}
               record { levels = levels; chain = chain; high = omega arith; more = omega (arith, rw (must chain c.0) at same); chosen = c.1 }
 
       -- no group is left
-      pub need_short : group ≡ none → SplitsTold s nodes dots rects node n₀ r head None
+      pub need_short : group ≡ none → SplitsTold s (holding nodes dots rects) node n₀ r head None
       need_short e k levels₀ high free listed =
           let all = split_count s levels₀ n₀ r (leaf k.chain) in
           rw (lt-leb all (length free) (omega (arith, (divided k levels₀ high).more, walk_end counting.walk e free listed))) refl

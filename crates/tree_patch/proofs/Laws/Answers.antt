@@ -23,6 +23,7 @@ use Rattle.model.proofs.Laws.Layout.{holds-changes}
 use Rattle.model.proofs.Laws.Calls.{counted_low, counted_past}
 use Rattle.model.proofs.Laws.Laying.{laid-changes}
 use Rattle.model.proofs.Laws.Patch.{patch-goes, patch_cases, numbered-length}
+use Rattle.memory.specs.Lent.{holding}
 use Rattle.tree.specs.Operations.{IsTree, CarriedOut}
 use Rattle.tree.proofs.Laws.Operations.{refused-exit}
 use Rattle.model.specs.declared.answers.Changed.{Changed}
@@ -30,8 +31,8 @@ use Rattle.tree_patch.specs.Laid.{rects_before, none_laid, Progress, SomeProgres
 use Rattle.tree_patch.specs.Goes.{GoesTold}
 use Rattle.tree_patch.proofs.Laws.Order.{before_end}
 
-module _ {s : State} {p : Patch} {nodes dots : List ℕ} {rects : List ℤ} {goes : Bool} (told : GoesTold s p nodes dots rects goes) where
-  pub refused-14 : not goes ≡ true → CarriedOut (patch_rule p) s nodes dots rects s nodes dots rects (refused 14)
+module _ {s : State} {p : Patch} {nodes dots : List ℕ} {rects : List ℤ} {goes : Bool} (told : GoesTold s p (holding nodes dots rects) goes) where
+  pub refused-14 : not goes ≡ true → CarriedOut (patch_rule p) s (holding nodes dots rects) s (holding nodes dots rects) (refused 14)
   unfolding cleared patch_rule
   refused-14 n marks x h =
       ⊎_elim
@@ -48,7 +49,7 @@ module _ {s : State} {p : Patch} {nodes dots : List ℕ} {rects : List ℤ} {goe
     more : (marks : List ℕ) (x : Shape) → Holds (world s nodes dots rects marks) x → (laid (patch_dots p) x).changes ≡ s.changes + number
     more marks x h = omega (arith, laid-changes (patch_dots p) x, holds-changes (world s nodes dots rects marks) x h, many)
 
-    pub refused-16 : not counts ≡ true → CarriedOut (patch_rule p) s nodes dots rects s nodes dots rects (refused 16)
+    pub refused-16 : not counts ≡ true → CarriedOut (patch_rule p) s (holding nodes dots rects) s (holding nodes dots rects) (refused 16)
     unfolding patch_rule
     refused-16 past marks x h =
         let ds = patch_dots p in
@@ -57,7 +58,7 @@ module _ {s : State} {p : Patch} {nodes dots : List ℕ} {rects : List ℤ} {goe
 
   module _ (fits : patch_fits p ≡ true) (n : not goes ≡ false) {number : ℕ} (many : number ≡ length (patch_dots p)) {counts : Bool}
       (count : counts ≡ can_count s number) (few : not counts ≡ false) where
-    starts : (marks : List ℕ) (x : Shape) → Holds (world s nodes dots rects marks) x → Progress p 0 0 (none_laid s) nodes dots rects marks x
+    starts : (marks : List ℕ) (x : Shape) → Holds (world s nodes dots rects marks) x → Progress p 0 0 (none_laid s) (holding nodes dots rects) marks x
     unfolding rects_before can_count
     starts marks x h =
         let room = leb-true (s.changes + number) largest_count (sym count ∙ not-false counts few) in
@@ -70,12 +71,12 @@ module _ {s : State} {p : Patch} {nodes dots : List ℕ} {rects : List ℤ} {goe
           number = refl;
         }
 
-    pub some-starts : IsTree s nodes dots rects → SomeProgress p 0 0 (none_laid s) nodes dots rects
+    pub some-starts : IsTree s (holding nodes dots rects) → SomeProgress p 0 0 (none_laid s) (holding nodes dots rects)
     some-starts t = record { marks = t.marks; shape = t.shape; progress = starts t.marks t.shape t.holds }
 
     pub laid-whole : (l : Changed) (nodes' dots' : List ℕ) (rects' : List ℤ)
-        → Proceeds p 0 0 (none_laid s) nodes dots rects 0 (16 * p.rows) l nodes' dots' rects'
-        → CarriedOut (patch_rule p) s nodes dots rects l.state nodes' dots' rects' (answered l.number)
+        → Proceeds p 0 0 (none_laid s) (holding nodes dots rects) 0 (16 * p.rows) l (holding nodes' dots' rects')
+        → CarriedOut (patch_rule p) s (holding nodes dots rects) l.state (holding nodes' dots' rects') (answered l.number)
     unfolding cleared patch_dots patch_rule
     laid-whole l nodes' dots' rects' done marks x h =
         let start = starts marks x h in

@@ -23,6 +23,7 @@ use Rattle.model.specs.Patch.{patch_rects}
 use Rattle.model.proofs.Laws.Sums.{sum_over-one}
 use Rattle.memory.specs.declared.node.Node.{Node}
 use Rattle.memory.specs.Nodes.{node_at}
+use Rattle.memory.specs.Lent.{holding}
 use Rattle.tree.proofs.Laws.Trees.{not-branch, is-branch, mark-no_leaf, node_in-row, shallow-branch}
 use Rattle.tint.specs.Counts.{within_bounds}
 use Rattle.tint.proofs.Laws.Within.{within-few}
@@ -43,30 +44,31 @@ module _ (s : Settings) (nodes dots : List ℕ) (rects : List ℤ) (c : Cell) (p
 
   -- the tree at the cell; what is told of the cell; the splits below it, and what is told of them
   abbrev Here : Tree → Type 0
-  Here t = CellStands s nodes dots rects c t
+  Here t = CellStands s (holding nodes dots rects) c t
 
   abbrev Told : ℕ → Type 0
-  Told r = CellCounted s nodes dots rects c p r
+  Told r = CellCounted s (holding nodes dots rects) c p r
 
   abbrev group_splits : (ℕ → Tree) → ℕ
   group_splits f = splits_of_last s p nodes c f 4
 
   abbrev GroupTold : ℕ → Type 0
-  GroupTold r = GroupCounted s nodes dots rects c 4 p r
+  GroupTold r = GroupCounted s (holding nodes dots rects) c 4 p r
 
   pub cell-none : {laid : ℕ} → laid ≡ length (within_bounds c.bounds laid_rects) → laid ≡ 0 → Told 0
   unfolding CellCounted
   cell-none e none t st = sym (splits-none s laid_rects (patch-upright p) c.levels n c.bounds t st.formed (sym e ∙ none))
 
-  module _ {sums : List ℕ} (w : CellCount s nodes dots rects c p sums) where
+  module _ {sums : List ℕ} (w : CellCount s (holding nodes dots rects) c p sums) where
     one : 1 ≤ s.smallest_cell
     one = (accepted s w.given.settings_fit).cell
 
     abbrev GroupAsked : Type 0
-    GroupAsked = GroupCount s nodes dots rects c 4 p sums
+    GroupAsked = GroupCount s (holding nodes dots rects) c 4 p sums
 
     -- the group below a cell that may split
-    group-count : may_split s n ≡ true → 1 ≤ c.levels → (f : ℕ → Tree) → LastStand s nodes dots rects c 4 f → group_splits f ≤ most_splits → GroupAsked
+    group-count : may_split s n ≡ true → 1 ≤ c.levels → (f : ℕ → Tree) → LastStand s (holding nodes dots rects) c 4 f
+        → group_splits f ≤ most_splits → GroupAsked
     group-count may some f stand small =
         record {
           given = w.given;

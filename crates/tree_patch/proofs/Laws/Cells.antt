@@ -1,16 +1,11 @@
 -- The cells below one.
---     leaf-node, branch-node, cell-is      the node of a child's cell, and the cell
 --     chain-stands the chain of a leaf stands in the rows
 --     below-branch, below-leaf     what holds at the cells below a branch, and at those below a leaf that may split
-use Rattle.std.specs.Prelude.{◌≡◌, refl, List, [], ◌∷◌, Bool, true, false, cond, not, ℕ, ◌+◌, ◌-◌, ◌≤◌, eqb, ℤ}
-use Rattle.std.proofs.Common.{sym, ◌∙◌, subst, arith, eq-eqb, ne_eqb}
+use Rattle.std.specs.Prelude.{◌≡◌, refl, List, [], ◌∷◌, true, ℕ, ◌-◌, ◌≤◌, ℤ}
+use Rattle.std.proofs.Common.{sym, subst, arith, eq-eqb, ne_eqb}
 use Rattle.std.proofs.Math.Decide.{ℕ_discrete}
-use Rattle.std.proofs.lemmas.Bool.{not-true, not-false}
 use Rattle.geometry.specs.declared.settings.Settings.{Settings}
-use Rattle.geometry.specs.declared.node_data.NodeData.{NodeData}
-use Rattle.geometry.specs.declared.bounds.Bounds.{Bounds}
-use Rattle.geometry.specs.Bounds.{bounds_below}
-use Rattle.geometry.specs.Cells.{child_data, may_split}
+use Rattle.geometry.specs.Cells.{may_split}
 use Rattle.geometry.proofs.Laws.Geometry.{levels_fall}
 use Rattle.model.specs.Sums.{sum_over}
 use Rattle.model.specs.Lists.{All}
@@ -18,9 +13,8 @@ use Rattle.model.specs.Trees.{Placed, Tree, leaf, branch, child_node, at_place}
 use Rattle.model.specs.Layout.{branch_mark}
 use Rattle.model.specs.Memory.{first_at, count_at}
 use Rattle.model.proofs.Laws.Sums.{by_dec, indicator_other}
-use Rattle.memory.specs.declared.node.Node.{Node}
-use Rattle.memory.specs.Nodes.{node_at}
 use Rattle.memory.specs.Rows.{HasPlace, HasRect}
+use Rattle.memory.specs.Lent.{holding}
 use Rattle.tree.specs.Chains.{ChainStands}
 use Rattle.tree.specs.Trees.{InRows, TreeStands}
 use Rattle.tree.proofs.Laws.Chains.{chained-stands}
@@ -28,21 +22,6 @@ use Rattle.tree.proofs.Laws.Trees.{mark-no_leaf, child-stands}
 use Rattle.tree_patch.specs.declared.splits.Cell.{Cell}
 use Rattle.tree_patch.specs.Cells.{cell_below, CellStands}
 use Rattle.tree_patch.specs.Counts.{LastStand}
-
--- ---- the node of a child's cell
-
-module _ (words : Node) (node child : ℕ) {b : Bool} (told : b ≡ eqb words.count branch_mark) where
-  pub leaf-node : not b ≡ true → node ≡ cond (eqb words.count branch_mark) (words.first + child) node
-  leaf-node n = rw (sym told ∙ not-true b n) refl
-
-  pub branch-node : not b ≡ false → words.first + child ≡ cond (eqb words.count branch_mark) (words.first + child) node
-  branch-node n = rw (sym told ∙ not-false b n) refl
-
-pub cell-is : (nodes : List ℕ) (c : Cell) (child : ℕ) {words : Node} {node : ℕ} {n : NodeData} {b : Bounds} → words ≡ node_at nodes c.node
-    → node ≡ cond (eqb words.count branch_mark) (words.first + child) c.node → n ≡ child_data c.node_data child
-    → b ≡ bounds_below c.bounds c.node_data.cell child
-    → record { node = node; node_data = n; bounds = b; levels = c.levels - 1 } ≡ cell_below nodes c child
-cell-is nodes c child w e f g = cc
 
 -- ---- the cells below one
 
@@ -62,7 +41,7 @@ chain-stands {nodes} {dots} {rects} {a = a} {chain} t =
     (in_rows dots rects chain t.dots_in) t.represents.0 t.represents.1
 
 module _ {s : Settings} {nodes dots : List ℕ} {rects : List ℤ} {c : Cell} (one : 1 ≤ s.smallest_cell) where
-  pub below-branch : {g : ℕ} {f : ℕ → Tree} → CellStands s nodes dots rects c (branch g f) → LastStand s nodes dots rects c 4 f
+  pub below-branch : {g : ℕ} {f : ℕ → Tree} → CellStands s (holding nodes dots rects) c (branch g f) → LastStand s (holding nodes dots rects) c 4 f
   below-branch {g} {f} st i low five =
       let t = st.stands in
       let v = st.formed in
@@ -74,8 +53,8 @@ module _ {s : Settings} {nodes dots : List ℕ} {rects : List ℤ} {c : Cell} (o
         enough = omega (arith, st.enough, levels_fall s one c.node_data v.0 i);
       }
 
-  pub below-leaf : {chain : List Placed} → may_split s c.node_data ≡ true → CellStands s nodes dots rects c (leaf chain)
-      → LastStand s nodes dots rects c 4 (λ i. leaf chain)
+  pub below-leaf : {chain : List Placed} → may_split s c.node_data ≡ true → CellStands s (holding nodes dots rects) c (leaf chain)
+      → LastStand s (holding nodes dots rects) c 4 (λ i. leaf chain)
   below-leaf {chain} may st i low five =
       let t = st.stands in
       let node : (cell_below nodes c i).node ≡ c.node =

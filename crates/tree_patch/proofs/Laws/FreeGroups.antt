@@ -1,7 +1,7 @@
 -- The walk along the free groups as far as a number of them.
---     free-short, free-enough      it has come to the end; it has passed so many
-use Rattle.std.specs.Prelude.{◌≡◌, true, false, List, ℕ, ◌≤◌, ◌<◌, leb, length}
-use Rattle.std.proofs.Common.{sym, arith, le-leb}
+--     free-short   it has come to the end
+use Rattle.std.specs.Prelude.{◌≡◌, false, List, ℕ, ◌<◌, leb, length}
+use Rattle.std.proofs.Common.{sym, arith}
 use Rattle.std.proofs.lemmas.Bool.{lt-leb}
 use Rattle.model.specs.Layout.{none}
 use Rattle.tree_insert.specs.FreeGroups.{FreeIn}
@@ -10,6 +10,3 @@ use Rattle.tree_insert.proofs.Laws.FreeGroups.{Walking, walk_end}
 module _ {nodes : List ℕ} {head at passed : ℕ} (w : Walking nodes head at passed) (number : ℕ) where
   pub free-short : passed < number → at ≡ none → (free : List ℕ) → FreeIn nodes head free → false ≡ leb number (length free)
   free-short more ended free listed = sym (lt-leb number (length free) (omega (arith, walk_end w ended free listed)))
-
-  pub free-enough : number ≤ passed → (free : List ℕ) → FreeIn nodes head free → true ≡ leb number (length free)
-  free-enough enough free listed = sym (le-leb number (length free) (omega (arith, (w.rest free listed).2)))

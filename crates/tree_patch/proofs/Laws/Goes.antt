@@ -1,12 +1,12 @@
 -- The tests of whether a patch can be laid, together.
---     no-ids, no-places, off_the_film      a test that it does not pass
+--     no-places, off_the_film      a test that it does not pass
 --     none_off_the_film    it passes the last of these: insert accepts every rectangle
 --     groups-told  it passes them all: the free groups decide
 use Rattle.std.specs.Prelude.{◌≡◌, Bool, true, false, not, ℕ, suc, ◌+◌, ◌≤◌, ◌<◌, ℤ, length, leb}
 use Rattle.std.proofs.Common.{ap, ◌∙◌, arith}
 use Rattle.std.proofs.Math.Path.{sym, subst}
 use mathlib.Core.List.{List, [], ◌∷◌}
-use borrow.Author.Tests.{leb-true, le-leb, not-true, not-false}
+use borrow.Author.Tests.{leb-true, le-leb, not-false}
 use Rattle.arithmetic.proofs.Laws.Linear.{and_t}
 use Rattle.arithmetic.proofs.Laws.Tests.{true_false}
 use Rattle.geometry.specs.declared.aabb.AABB.{AABB}
@@ -25,6 +25,7 @@ use Rattle.model.specs.Patch.{patch_rects, numbered, patch_dots, ids_fit, PatchG
 use Rattle.model.proofs.Laws.Layout.{holds-settings}
 use Rattle.model.proofs.Laws.Memory.{holds-represented}
 use Rattle.model.proofs.Laws.Patch.{numbered-length}
+use Rattle.memory.specs.Lent.{holding}
 use Rattle.tree_insert.specs.FreeGroups.{FreeIn}
 use Rattle.tint.specs.Counts.{within_bounds, unit_bounds}
 use Rattle.tint.proofs.Laws.Filters.{filter-few}
@@ -71,19 +72,16 @@ none_off_the_film s p many settings bounds counted whole =
 
 module _ (s : State) (p : Patch) {nodes dots : List ℕ} {rects : List ℤ} where
   -- a test that every patch passes that can be laid
-  fails : ((marks : List ℕ) (x : Shape) → Holds (world s nodes dots rects marks) x → PatchGoes p x → ⊥) → GoesTold s p nodes dots rects false
+  fails : ((marks : List ℕ) (x : Shape) → Holds (world s nodes dots rects marks) x → PatchGoes p x → ⊥) → GoesTold s p (holding nodes dots rects) false
   fails never = record { exactly = λ marks x h. ((λ e. true_false (sym e)), λ g. absurd (never marks x h g)) }
 
-  pub no-ids : {fit : Bool} → fit ≡ ids_fit (patch_dots p) → not fit ≡ true → GoesTold s p nodes dots rects false
-  no-ids {fit} test n = fails (λ marks x h g. true_false (sym g.ids ∙ sym test ∙ not-true fit n))
-
   module _ {number : ℕ} (many : number ≡ length (patch_dots p)) where
-    pub no-places : {places : ℕ} → places ≡ places_in (length dots) → places < s.live + number → GoesTold s p nodes dots rects false
+    pub no-places : {places : ℕ} → places ≡ places_in (length dots) → places < s.live + number → GoesTold s p (holding nodes dots rects) false
     no-places is few = fails (λ marks x h g. omega (arith, many, is, few, counts h, g.can.places_enough))
 
     module _ (settings : in_range s.settings ≡ true) {b : Bounds} (bounds : b ≡ unit_bounds s.settings) {within : ℕ}
         (counted : within ≡ length (within_bounds b (patch_rects p))) where
-      pub off_the_film : within < number → GoesTold s p nodes dots rects false
+      pub off_the_film : within < number → GoesTold s p (holding nodes dots rects) false
       unfolding patch_dots
       off_the_film few = fails (λ marks x h g.
           let same = holds-settings (world s nodes dots rects marks) x h in
@@ -92,9 +90,9 @@ module _ (s : State) (p : Patch) {nodes dots : List ℕ} {rects : List ℤ} wher
           omega (arith, few, rects-many p many, in_bounds_lem s.settings p bounds counted, all-within s.settings settings p mine))
 
     pub groups-told : {fit : Bool} → fit ≡ ids_fit (patch_dots p) → not fit ≡ false → s.live + number ≤ places_in (length dots)
-        → AllAcceptable s.settings p → (splits : ℕ) → PatchCounted s nodes dots rects p splits
+        → AllAcceptable s.settings p → (splits : ℕ) → PatchCounted s (holding nodes dots rects) p splits
         → {goes : Bool} → ((free : List ℕ) → FreeIn nodes s.free_group free → goes ≡ leb splits (length free))
-        → GoesTold s p nodes dots rects goes
+        → GoesTold s p (holding nodes dots rects) goes
     unfolding patch_dots PatchCounted
     groups-told {fit} test n room acceptable-all splits counts-splits {goes} free =
         record {

@@ -11,19 +11,20 @@ use Rattle.geometry.specs.Cells.{child_data}
 use Rattle.geometry.proofs.Laws.Ranges.{child-range}
 use Rattle.model.specs.declared.patch.Patch.{Patch}
 use Rattle.model.specs.Trees.{Tree}
+use Rattle.memory.specs.Lent.{holding}
 use Rattle.tree_patch.specs.declared.splits.Cell.{Cell}
 use Rattle.tree.proofs.Laws.Trees.{sum_step}
 use Rattle.tree_patch.specs.Cells.{cell_below, CellStands}
 use Rattle.tree_patch.specs.Counts.{splits_at, splits_of_last, most_splits, CellCount, CellCounted, LastStand, GroupCount, GroupCounted}
 
 module _ (s : Settings) (nodes dots : List ℕ) (rects : List ℤ) (c : Cell) (left : ℕ) (p : Patch) where
-  pub group-none : left ≡ 0 → GroupCounted s nodes dots rects c left p 0
+  pub group-none : left ≡ 0 → GroupCounted s (holding nodes dots rects) c left p 0
   unfolding GroupCounted
   group-none z f st = rw z refl
 
-  module _ (some : ¬ (left ≡ 0)) {sums : List ℕ} (w : GroupCount s nodes dots rects c left p sums)
+  module _ (some : ¬ (left ≡ 0)) {sums : List ℕ} (w : GroupCount s (holding nodes dots rects) c left p sums)
       {below : Cell} (e : below ≡ cell_below nodes c (5 - left)) where
-    child-stands : (f : ℕ → Tree) → LastStand s nodes dots rects c left f → CellStands s nodes dots rects below (f (5 - left))
+    child-stands : (f : ℕ → Tree) → LastStand s (holding nodes dots rects) c left f → CellStands s (holding nodes dots rects) below (f (5 - left))
     child-stands f st = rw e (st (5 - left) (omega (arith, w.few)) (omega (arith, some)))
 
     -- the first child's splits, and the others'
@@ -31,7 +32,7 @@ module _ (s : Settings) (nodes dots : List ℕ) (rects : List ℤ) (c : Cell) (l
         → splits_of_last s p nodes c f left ≡ splits_at s p below (f (5 - left)) + splits_of_last s p nodes c f (left - 1)
     splits_are f = rw e (sum_step (λ i. splits_at s p (cell_below nodes c i) (f i)) left (omega (arith, some)))
 
-    pub group-child : CellCount s nodes dots rects below p sums
+    pub group-child : CellCount s (holding nodes dots rects) below p sums
     unfolding child_data
     group-child =
         record {
@@ -42,10 +43,10 @@ module _ (s : Settings) (nodes dots : List ℕ) (rects : List ℤ) (c : Cell) (l
           small = omega (arith, w.small, splits_are w.children);
         }
 
-    others-stand : (f : ℕ → Tree) → LastStand s nodes dots rects c left f → LastStand s nodes dots rects c (left - 1) f
+    others-stand : (f : ℕ → Tree) → LastStand s (holding nodes dots rects) c left f → LastStand s (holding nodes dots rects) c (left - 1) f
     others-stand f st i low five = st i (omega arith) five
 
-    pub group-others : GroupCount s nodes dots rects c (left - 1) p sums
+    pub group-others : GroupCount s (holding nodes dots rects) c (left - 1) p sums
     group-others =
         record {
           given = w.given;
@@ -59,13 +60,13 @@ module _ (s : Settings) (nodes dots : List ℕ) (rects : List ℤ) (c : Cell) (l
           small = omega (arith, w.small, splits_are w.children);
         }
 
-    module _ (here rest : ℕ) (child : CellCounted s nodes dots rects below p here)
-        (others : GroupCounted s nodes dots rects c (left - 1) p rest) where
-      pub group-counted : GroupCounted s nodes dots rects c left p (here + rest)
+    module _ (here rest : ℕ) (child : CellCounted s (holding nodes dots rects) below p here)
+        (others : GroupCounted s (holding nodes dots rects) c (left - 1) p rest) where
+      pub group-counted : GroupCounted s (holding nodes dots rects) c left p (here + rest)
       unfolding CellCounted GroupCounted
       group-counted f st = omega (arith, child (f (5 - left)) (child-stands f st), others f (others-stand f st), splits_are f)
 
-    group-spent : (here : ℕ) → CellCounted s nodes dots rects below p here
+    group-spent : (here : ℕ) → CellCounted s (holding nodes dots rects) below p here
         → here + splits_of_last s p nodes c w.children (left - 1) ≡ splits_of_last s p nodes c w.children left
     unfolding CellCounted
     group-spent here child = omega (arith, child (w.children (5 - left)) (child-stands w.children w.stand), splits_are w.children)
@@ -73,17 +74,17 @@ module _ (s : Settings) (nodes dots : List ℕ) (rects : List ℤ) (c : Cell) (l
 -- ---- the loop, with so many splits counted and so many children left
 
 pub record Ahead (s : Settings) (nodes dots : List ℕ) (rects : List ℤ) (c : Cell) (p : Patch) (sums : List ℕ) (splits left : ℕ) : Type 0 where
-  pub asks : GroupCount s nodes dots rects c left p sums
+  pub asks : GroupCount s (holding nodes dots rects) c left p sums
   pub fits : splits + splits_of_last s p nodes c asks.children left ≤ most_splits
-  pub whole : (r : ℕ) → GroupCounted s nodes dots rects c left p r → GroupCounted s nodes dots rects c 4 p (splits + r)
+  pub whole : (r : ℕ) → GroupCounted s (holding nodes dots rects) c left p r → GroupCounted s (holding nodes dots rects) c 4 p (splits + r)
 
 module _ {s : Settings} {nodes dots : List ℕ} {rects : List ℤ} {c : Cell} {p : Patch} {sums : List ℕ} where
-  pub ahead-start : GroupCount s nodes dots rects c 4 p sums → Ahead s nodes dots rects c p sums 0 4
+  pub ahead-start : GroupCount s (holding nodes dots rects) c 4 p sums → Ahead s nodes dots rects c p sums 0 4
   ahead-start w =
       record {
         asks = w;
         fits = omega (arith, w.small);
-        whole = λ r g. let same : r ≡ 0 + r = omega arith in subst (GroupCounted s nodes dots rects c 4 p) same g;
+        whole = λ r g. let same : r ≡ 0 + r = omega arith in subst (GroupCounted s (holding nodes dots rects) c 4 p) same g;
       }
 
   module _ {splits child : ℕ} (a : Ahead s nodes dots rects c p sums splits (5 - child)) where
@@ -94,10 +95,10 @@ module _ {s : Settings} {nodes dots : List ℕ} {rects : List ℤ} {c : Cell} {p
       its : below ≡ cell_below nodes c (5 - (5 - child))
       its = let this : child ≡ 5 - (5 - child) = omega arith in e ∙ ap (cell_below nodes c) this
 
-      pub ahead-child : CellCount s nodes dots rects below p sums
+      pub ahead-child : CellCount s (holding nodes dots rects) below p sums
       ahead-child = group-child s nodes dots rects c (5 - child) p some a.asks its
 
-      module _ (here : ℕ) (counted : CellCounted s nodes dots rects below p here) where
+      module _ (here : ℕ) (counted : CellCounted s (holding nodes dots rects) below p here) where
         spent : here + splits_of_last s p nodes c a.asks.children ((5 - child) - 1) ≡ splits_of_last s p nodes c a.asks.children (5 - child)
         spent = group-spent s nodes dots rects c (5 - child) p some a.asks its here counted
 
@@ -112,7 +113,7 @@ module _ {s : Settings} {nodes dots : List ℕ} {rects : List ℤ} {c : Cell} {p
               fits = omega (arith, a.fits, spent);
               whole = λ r g.
                   let same : splits + (here + r) ≡ splits + here + r = omega arith in
-                  subst (GroupCounted s nodes dots rects c 4 p) same
+                  subst (GroupCounted s (holding nodes dots rects) c 4 p) same
                   (a.whole (here + r) (group-counted s nodes dots rects c (5 - child) p some a.asks its here r counted g));
             }
 
@@ -121,7 +122,7 @@ module _ {s : Settings} {nodes dots : List ℕ} {rects : List ℤ} {c : Cell} {p
             let others : (5 - child) - 1 ≡ 5 - (child + 1) = omega arith in
             subst (Ahead s nodes dots rects c p sums (splits + here)) others turned
 
-    pub ahead_end : 5 ≤ child → GroupCounted s nodes dots rects c 4 p splits
+    pub ahead_end : 5 ≤ child → GroupCounted s (holding nodes dots rects) c 4 p splits
     ahead_end z =
         let same : splits + 0 ≡ splits = omega arith in
-        subst (GroupCounted s nodes dots rects c 4 p) same (a.whole 0 (group-none s nodes dots rects c (5 - child) p (omega arith)))
+        subst (GroupCounted s (holding nodes dots rects) c 4 p) same (a.whole 0 (group-none s nodes dots rects c (5 - child) p (omega arith)))

@@ -31,6 +31,7 @@ use Rattle.model.proofs.Laws.Layout.{same-settings, holds-settings}
 use Rattle.model.proofs.Laws.Calls.{counted_low, world_of_lem, reply_of}
 use Rattle.model.proofs.Laws.Patch.{numbered-length}
 use Rattle.model.proofs.Laws.Laying.{FirstLaid, can_lay-first, can_lay-append, laid-changes, laid-append}
+use Rattle.memory.specs.Lent.{holding}
 use Rattle.tree.specs.Operations.{CarriedOut}
 use Rattle.tint.proofs.Laws.Within.{sides}
 use Rattle.model.specs.declared.answers.Changed.{Changed}
@@ -66,7 +67,7 @@ all-four false b c d e = true_false e
 module _ {p : Patch} {column row : ℕ} {l : Changed} {nodes dots : List ℕ} {rects : List ℤ} where
   module _ (at : DotAt p column row) where
     -- with the dots before it laid
-    module _ {marks : List ℕ} {x : Shape} (g : Progress p column row l nodes dots rects marks x) where
+    module _ {marks : List ℕ} {x : Shape} (g : Progress p column row l (holding nodes dots rects) marks x) where
       abbrev dot : Dot
       dot = patch_dot p column row l.number
 
@@ -138,23 +139,23 @@ module _ {p : Patch} {column row : ℕ} {l : Changed} {nodes dots : List ℕ} {r
           ∙ ap (λ (n : ℕ). inserted (patch_dot p column row n) before) (sym g.number)
 
     module _ {d : Dot} (is : d ≡ patch_dot p column row l.number) (a : Result Changed Refusal) {nodes' dots' : List ℕ} {rects' : List ℤ}
-        (done : CarriedOut (insert_rule d) l.state nodes dots rects (change_state l.state a) nodes' dots' rects' (change_reply a)) where
-      left : {marks : List ℕ} {x : Shape} (g : Progress p column row l nodes dots rects marks x)
+        (done : CarriedOut (insert_rule d) l.state (holding nodes dots rects) (change_state l.state a) (holding nodes' dots' rects') (change_reply a)) where
+      left : {marks : List ℕ} {x : Shape} (g : Progress p column row l (holding nodes dots rects) marks x)
           → exit {B = ℕ} (world (change_state l.state a) nodes' dots' rects' (replicate (length marks) 0)) [] (change_reply a)
           ≡ exit (layout (inserted (dot g) (before g))) [] (answered (splits_made (dot g) (before g)))
       left {marks} g =
           done marks (before g) g.holds
           ∙ ap (carried_out (world l.state nodes dots rects marks) []) (ap (λ (d : Dot). insert_rule d (before g)) is ∙ inserts g)
 
-      pub lay_refused : {e : Refusal} → a ≡ Err e → {marks : List ℕ} {x : Shape} → Progress p column row l nodes dots rects marks x → ⊥
+      pub lay_refused : {e : Refusal} → a ≡ Err e → {marks : List ℕ} {x : Shape} → Progress p column row l (holding nodes dots rects) marks x → ⊥
       lay_refused {e} refusal g =
           true_false
           (sym (ap accepted (reply_of (left g))) ∙ ap (λ (b : Result Changed Refusal). accepted (change_reply b)) refusal ∙ refused-accepted ℕ e)
 
       -- the settings are kept
       pub lay_laid : {c : Changed} {u : State} → a ≡ Ok c → u ≡ same_settings l.state c.state
-          → {marks : List ℕ} {x : Shape} → Progress p column row l nodes dots rects marks x
-          → Progress p (suc column) row (record { state = u; number = l.number + 1 }) nodes' dots' rects' marks x
+          → {marks : List ℕ} {x : Shape} → Progress p column row l (holding nodes dots rects) marks x
+          → Progress p (suc column) row (record { state = u; number = l.number + 1 }) (holding nodes' dots' rects') marks x
       unfolding cleared inserted
       lay_laid {c} {u} told changed {marks} {x} g =
           let s' = c.state in

@@ -24,6 +24,7 @@ use Rattle.model.specs.Laying.{splits_for, splits_of_all}
 use Rattle.model.specs.Patch.{patch_fits, patch_rects}
 use Rattle.model.proofs.Laws.Layout.{holds-settings}
 use Rattle.model.proofs.Laws.Patch.{patch-rects}
+use Rattle.memory.specs.Lent.{holding}
 use Rattle.tree.specs.Operations.{IsTree}
 use Rattle.tree.proofs.Laws.Operations.{tree-settings}
 use Rattle.tree.proofs.Laws.Trees.{root_stands}
@@ -43,7 +44,7 @@ root_at n b levels = record { node = 0; node_data = n; bounds = b; levels = leve
 module _ (s : State) (nodes dots : List ℕ) (rects : List ℤ) where
   module _ {n : NodeData} {b : Bounds} {levels : ℕ} (known : n ≡ root_data s.settings) (bounds : b ≡ all_bounds) (deep : levels ≡ D s.settings) where
     root-cell : (marks : List ℕ) (x : Shape) → Holds (world s nodes dots rects marks) x
-        → CellStands s.settings nodes dots rects (root_at n b levels) x.tree
+        → CellStands s.settings (holding nodes dots rects) (root_at n b levels) x.tree
     root-cell marks x h =
         let same = holds-settings (world s nodes dots rects marks) x h in
         record {
@@ -52,8 +53,8 @@ module _ (s : State) (nodes dots : List ℕ) (rects : List ℤ) where
           enough = rw (known, deep) (levels-root s.settings);
         }
 
-    pub root-count : {p : Patch} {sums : List ℕ} → IsTree s nodes dots rects → patch_fits p ≡ true → TileSums p.tint sums
-        → CellCount s.settings nodes dots rects (root_at n b levels) p sums
+    pub root-count : {p : Patch} {sums : List ℕ} → IsTree s (holding nodes dots rects) → patch_fits p ≡ true → TileSums p.tint sums
+        → CellCount s.settings (holding nodes dots rects) (root_at n b levels) p sums
     unfolding root_data
     root-count {p} t fits tile =
         let ok = tree-settings t in
@@ -74,8 +75,8 @@ module _ (s : State) (nodes dots : List ℕ) (rects : List ℤ) where
           );
         }
 
-    pub root-counted : (p : Patch) → AllAcceptable s.settings p → (r : ℕ) → CellCounted s.settings nodes dots rects (root_at n b levels) p r
-        → PatchCounted s nodes dots rects p r
+    pub root-counted : (p : Patch) → AllAcceptable s.settings p → (r : ℕ) → CellCounted s.settings (holding nodes dots rects) (root_at n b levels) p r
+        → PatchCounted s (holding nodes dots rects) p r
     unfolding CellCounted PatchCounted splits_of_all
     root-counted p fit r counted marks x h =
         let same = holds-settings (world s nodes dots rects marks) x h in

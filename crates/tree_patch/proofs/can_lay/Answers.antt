@@ -2,7 +2,7 @@
 use Rattle.std.proofs.Common.{ap, not, subst, ℕ, ◌+◌, ◌≤◌}
 use Rattle.tree_insert.proofs.Laws.FreeGroups.{free-listed}
 use Rattle.tree.proofs.Laws.Operations.{tree-settings}
-use Rattle.tree_patch.proofs.Laws.Goes.{no-ids, no-places, off_the_film, none_off_the_film, groups-told}
+use Rattle.tree_patch.proofs.Laws.Goes.{no-places, off_the_film, none_off_the_film, groups-told}
 use Rattle.tree_patch.specs.Counts.{AllAcceptable}
 use Rattle.tree_patch.proofs.can_lay.Goals as goal
 use Rattle.tree_patch.proofs.can_lay.Goals.{Else-dots_within-number}
@@ -11,9 +11,6 @@ accepted : (c : Else-dots_within-number) → AllAcceptable c.args.state.settings
 accepted c =
     none_off_the_film _ _ c.dots_number-number.ensures (tree-settings c.requires.0) c.unit_bounds.ensures
     c.dots_within.ensures c.if-dots_within-number.false
-
-pub returns-then-not-ids_fit : goal.returns-then-not-ids_fit
-returns-then-not-ids_fit c = no-ids _ _ c.ids_fit.ensures (ap not c.if-not-ids_fit.true)
 
 pub returns-then-places_in-live : goal.returns-then-places_in-live
 returns-then-places_in-live c = no-places _ _ c.dots_number-number.ensures c.places_in.ensures c.if-places_in-live.true
@@ -37,5 +34,5 @@ pub returns : goal.returns
 returns c =
     let live = c.args.state.live in
     let enough = subst (λ (n : ℕ). live + c.dots_number-number.result ≤ n) c.places_in.ensures c.if-places_in-live.false in
-    groups-told _ _ c.dots_number-number.ensures c.ids_fit.ensures (ap not c.if-not-ids_fit.false) enough (accepted (goal.at.returns c).Else-dots_within-number) _ c.patch_splits-splits.ensures
-    c.has_free.ensures
+    groups-told _ _ c.dots_number-number.ensures c.ids_fit.ensures (ap not c.if-not-ids_fit.false) enough
+    (accepted (goal.at.returns c).Else-dots_within-number) _ c.patch_splits-splits.ensures c.has_free.ensures

@@ -3,7 +3,7 @@
 --     Rest         what has been listed and what is left make the whole
 --     rest-start, rest-turn, rest_end      the loop's three steps
 --     has-chain    the chain can be walked
---     rest-place, rest-room        what a turn asks: the place that it reads is in the rows, and few are listed
+--     rest-place   what a turn asks: the place that it reads is in the rows
 use Rattle.std.specs.Prelude.{◌≡◌, Bool, not, ℕ, ◌+◌, ◌-◌, ◌≤◌, ◌<◌, ℤ, set}
 use Rattle.std.proofs.Math.Path.{refl, ap, sym, subst}
 use Rattle.std.proofs.Common.{◌∙◌, add-one}
@@ -133,9 +133,6 @@ module _ (q : Window) (dots : List ℕ) (rects : List ℤ) where
           go : (chain : List Placed) → Chain place chain → length chain ≡ left → All (InRows dots rects) chain → HasPlace dots place × HasRect rects place
           go [] s l a = absurd (omega (arith, l, t.some))
           go (d ∷ ds) s l a = subst (λ (p : ℕ). HasPlace dots p × HasRect rects p) (sym s.0) a.0
-
-      pub rest-room : at < 65536
-      rest-room = omega (arith, inv.bound, t.some)
 
 pub has-chain : {dots : List ℕ} {rects : List ℤ} {found : Found} {head count : ℕ} → ChainWalk dots rects found head count → HasChain dots head count
 has-chain {dots} {rects} {head = head} w = subst (HasChain dots head) w.long (chain_has dots rects head w.chain w.stands w.dots_in)

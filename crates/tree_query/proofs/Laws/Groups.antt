@@ -4,7 +4,7 @@
 --     group-others, group_skips    a child that is not opened: what the others' walk asks, and gives
 --     group-node, group-rest, group_gives      one that is opened: what its walk asks; what the others' walk asks; both together
 --     Ahead        the loop over the children: what it has left to do leads to the whole
---     ahead-start, ahead-child, ahead-next, ahead-skip, ahead_end          its begin; a child's walk; its turns; its end
+--     ahead-child, ahead-next, ahead-skip, ahead_end       a child's walk; its turns; its end
 use Rattle.std.specs.Prelude.{◌≡◌, List, [], ◌++◌, Bool, true, false, cond, ◌||◌, ℕ, ◌+◌, ◌-◌, ◌≤◌, ◌<◌, ℤ, eqb}
 use Rattle.std.proofs.Math.Path.{refl, ap, sym}
 use Rattle.std.proofs.Common.{◌∙◌, subst, arith}
@@ -20,6 +20,7 @@ use Rattle.model.specs.declared.Window.{Window}
 use Rattle.model.specs.Trees.{Tree, child_node, size}
 use Rattle.model.specs.Query.{hits, opened}
 use Rattle.model.specs.declared.answers.Found.{Found}
+use Rattle.memory.specs.Lent.{holding}
 use Rattle.tree.specs.Trees.{node_total, TreeStands}
 use Rattle.tree.proofs.Laws.Trees.{sum_step}
 use Rattle.tree_query.specs.Walks.{group_hits, group_opened, after, Left, NodeWalk, NodeWalked, GroupWalk, GroupWalked}
@@ -48,7 +49,7 @@ opens-bit q cell quadrants i e n c =
 
 module _ {q : Window} {cell : CenteredAABB} {quadrants : Quadrants} {nodes dots : List ℕ} {rects : List ℤ}
     (row : List ℕ) {found : Found} {first levels left : ℕ} (some : left ≡ 0 → ⊥)
-    (w : GroupWalk q cell quadrants nodes dots rects found first levels left) where
+    (w : GroupWalk q cell quadrants (holding nodes dots rects) found first levels left) where
   least : 1 ≤ left
   least = omega (arith, some)
 
@@ -67,7 +68,7 @@ module _ {q : Window} {cell : CenteredAABB} {quadrants : Quadrants} {nodes dots 
 
   -- the children that are left after the first
   rest : (f : Found) → f.hits ≤ found.hits + size tree → f.opened ≤ found.opened + node_total tree
-      → GroupWalk q cell quadrants nodes dots rects f first levels (left - 1)
+      → GroupWalk q cell quadrants (holding nodes dots rects) f first levels (left - 1)
   rest f h o =
       record {
         group = w.group;
@@ -85,12 +86,12 @@ module _ {q : Window} {cell : CenteredAABB} {quadrants : Quadrants} {nodes dots 
 
   -- ---- the child is not opened
 
-  pub group-others : GroupWalk q cell quadrants nodes dots rects found first levels (left - 1)
+  pub group-others : GroupWalk q cell quadrants (holding nodes dots rects) found first levels (left - 1)
   group-others = rest found (omega arith) (omega arith)
 
   skipped : ((n : NodeData) → n.cell ≡ cell → opens q.rect n child ≡ false) → (row' : List ℕ) (r : Found)
-      → GroupWalked q cell nodes dots rects row found first levels (left - 1) row' r
-      → GroupWalked q cell nodes dots rects row found first levels left row' r
+      → GroupWalked q cell (holding nodes dots rects) row found first levels (left - 1) row' r
+      → GroupWalked q cell (holding nodes dots rects) row found first levels left row' r
   unfolding GroupWalked
   skipped shut row' r g = λ group f n h s e.
       let l = g group f n h (λ i low b. s i (omega arith) b) e in
@@ -98,13 +99,13 @@ module _ {q : Window} {cell : CenteredAABB} {quadrants : Quadrants} {nodes dots 
       (subst (λ (k : ℕ). Left row found (group_hits q n f (left - 1)) k row' r) (omega arith) l)
 
   pub group_skips : opens_bit quadrants.code child ≡ false → (row' : List ℕ) (r : Found)
-      → GroupWalked q cell nodes dots rects row found first levels (left - 1) row' r
-      → GroupWalked q cell nodes dots rects row found first levels left row' r
+      → GroupWalked q cell (holding nodes dots rects) row found first levels (left - 1) row' r
+      → GroupWalked q cell (holding nodes dots rects) row found first levels left row' r
   group_skips told row' r g = skipped (opens-child told) row' r g
 
   -- ---- the child is opened
 
-  pub group-node : (below : CenteredAABB) → below ≡ child_cell cell child → NodeWalk below nodes dots rects found (first + child) levels
+  pub group-node : (below : CenteredAABB) → below ≡ child_cell cell child → NodeWalk below (holding nodes dots rects) found (first + child) levels
   group-node below e =
       let node : first + child ≡ child_node w.group child = omega (arith, w.head) in
       record {
@@ -118,7 +119,7 @@ module _ {q : Window} {cell : CenteredAABB} {quadrants : Quadrants} {nodes dots 
       }
 
   module _ {below : CenteredAABB} (b : below ≡ child_cell cell child) (row₁ : List ℕ) (f₁ : Found)
-      (node : NodeWalked q below nodes dots rects row found (first + child) levels row₁ f₁) where
+      (node : NodeWalked q below (holding nodes dots rects) row found (first + child) levels row₁ f₁) where
     -- what the child's walk leaves, for the children of any tree that stands there
     child-left : (g : ℕ) (f : ℕ → Tree) (n : NodeData) → first ≡ child_node g 0 → TreeStands nodes dots rects levels (child_node g child) (f child)
         → n.cell ≡ cell → Left row found (hits q (child_data n child) (f child)) (opened q.rect (child_data n child) (f child)) row₁ f₁
@@ -131,7 +132,7 @@ module _ {q : Window} {cell : CenteredAABB} {quadrants : Quadrants} {nodes dots 
     some_data : NodeData
     some_data = record { cell = cell; depth = 0; is_child_0 = false }
 
-    pub group-rest : GroupWalk q cell quadrants nodes dots rects f₁ first levels (left - 1)
+    pub group-rest : GroupWalk q cell quadrants (holding nodes dots rects) f₁ first levels (left - 1)
     unfolding some_data after
     group-rest =
         let n = child_data some_data child in
@@ -141,8 +142,8 @@ module _ {q : Window} {cell : CenteredAABB} {quadrants : Quadrants} {nodes dots 
         (omega (arith, ap (λ (f : Found). f.opened) l.answer, opened_total q.rect n tree))
 
     walked : ((n : NodeData) → n.cell ≡ cell → opens q.rect n child ≡ true) → (row₂ : List ℕ) (f₂ : Found)
-        → GroupWalked q cell nodes dots rects row₁ f₁ first levels (left - 1) row₂ f₂
-        → GroupWalked q cell nodes dots rects row found first levels left row₂ f₂
+        → GroupWalked q cell (holding nodes dots rects) row₁ f₁ first levels (left - 1) row₂ f₂
+        → GroupWalked q cell (holding nodes dots rects) row found first levels left row₂ f₂
     unfolding GroupWalked
     walked shown row₂ f₂ g = λ group f n h s e.
         let one = child-left group f n h (s child (omega (arith, w.small)) (omega (arith, least))) e in
@@ -150,12 +151,12 @@ module _ {q : Window} {cell : CenteredAABB} {quadrants : Quadrants} {nodes dots 
         (left_then one (g group f n h (λ j low b. s j (omega arith) b) e))
 
     pub group_gives : opens_bit quadrants.code child ≡ true → (row₂ : List ℕ) (f₂ : Found)
-        → GroupWalked q cell nodes dots rects row₁ f₁ first levels (left - 1) row₂ f₂
-        → GroupWalked q cell nodes dots rects row found first levels left row₂ f₂
+        → GroupWalked q cell (holding nodes dots rects) row₁ f₁ first levels (left - 1) row₂ f₂
+        → GroupWalked q cell (holding nodes dots rects) row found first levels left row₂ f₂
     group_gives shown row₂ f₂ g = walked (opens-child shown) row₂ f₂ g
 
 pub group-none : (q : Window) (cell : CenteredAABB) (nodes dots : List ℕ) (rects : List ℤ) (row : List ℕ) (found : Found) (first levels left : ℕ)
-    → left ≡ 0 → GroupWalked q cell nodes dots rects row found first levels left row found
+    → left ≡ 0 → GroupWalked q cell (holding nodes dots rects) row found first levels left row found
 unfolding GroupWalked
 group-none q cell nodes dots rects row found first levels left z = λ g f n h s e.
     subst (λ (k : ℕ). Left row found (group_hits q n f k) (group_opened q.rect n f k) row found) (sym z) (left-none row found)
@@ -164,14 +165,9 @@ group-none q cell nodes dots rects row found first levels left z = λ g f n h s 
 
 pub record Ahead (q : Window) (cell : CenteredAABB) (quadrants : Quadrants) (nodes dots : List ℕ) (rects : List ℤ) (row₀ : List ℕ) (found₀ : Found)
     (first levels : ℕ) (row : List ℕ) (found : Found) (child : ℕ) : Type 0 where
-  pub asks : GroupWalk q cell quadrants nodes dots rects found first levels (5 - child)
-  pub whole : (row' : List ℕ) (r : Found) → GroupWalked q cell nodes dots rects row found first levels (5 - child) row' r
-      → GroupWalked q cell nodes dots rects row₀ found₀ first levels 5 row' r
-
-pub ahead-start : {q : Window} {cell : CenteredAABB} {quadrants : Quadrants} {nodes dots : List ℕ} {rects : List ℤ} (row : List ℕ) {found : Found}
-    {first levels : ℕ} → GroupWalk q cell quadrants nodes dots rects found first levels 5
-    → Ahead q cell quadrants nodes dots rects row found first levels row found 0
-ahead-start row w = record { asks = w; whole = λ row' r g. g }
+  pub asks : GroupWalk q cell quadrants (holding nodes dots rects) found first levels (5 - child)
+  pub whole : (row' : List ℕ) (r : Found) → GroupWalked q cell (holding nodes dots rects) row found first levels (5 - child) row' r
+      → GroupWalked q cell (holding nodes dots rects) row₀ found₀ first levels 5 row' r
 
 module _ {q : Window} {cell : CenteredAABB} {quadrants : Quadrants} {nodes dots : List ℕ} {rects : List ℤ} {row₀ : List ℕ} {found₀ : Found}
     {first levels : ℕ} {row : List ℕ} {found : Found} {child : ℕ}
@@ -192,31 +188,31 @@ module _ {q : Window} {cell : CenteredAABB} {quadrants : Quadrants} {nodes dots 
     pub ahead-skip : opens_bit quadrants.code child ≡ false → Ahead q cell quadrants nodes dots rects row₀ found₀ first levels row found (child + 1)
     ahead-skip told =
         record {
-          asks = subst (GroupWalk q cell quadrants nodes dots rects found first levels) others (group-others row some a.asks);
+          asks = subst (GroupWalk q cell quadrants (holding nodes dots rects) found first levels) others (group-others row some a.asks);
           whole = λ row' r g. a.whole row' r
               (group_skips row some a.asks (told-here told) row' r
-              (subst (λ (k : ℕ). GroupWalked q cell nodes dots rects row found first levels k row' r) (sym others) g));
+              (subst (λ (k : ℕ). GroupWalked q cell (holding nodes dots rects) row found first levels k row' r) (sym others) g));
         }
 
     module _ {below : CenteredAABB} (e : below ≡ child_cell cell child) where
       its : below ≡ child_cell cell (5 - (5 - child))
       its = e ∙ ap (child_cell cell) (sym this)
 
-      pub ahead-child : NodeWalk below nodes dots rects found (first + child) levels
+      pub ahead-child : NodeWalk below (holding nodes dots rects) found (first + child) levels
       ahead-child =
-          subst (λ (k : ℕ). NodeWalk below nodes dots rects found (first + k) levels) this (group-node row some a.asks below its)
+          subst (λ (k : ℕ). NodeWalk below (holding nodes dots rects) found (first + k) levels) this (group-node row some a.asks below its)
 
       pub ahead-next : opens_bit quadrants.code child ≡ true → {row₁ : List ℕ} {f₁ : Found}
-          → NodeWalked q below nodes dots rects row found (first + child) levels row₁ f₁
+          → NodeWalked q below (holding nodes dots rects) row found (first + child) levels row₁ f₁
           → Ahead q cell quadrants nodes dots rects row₀ found₀ first levels row₁ f₁ (child + 1)
       ahead-next told {row₁} {f₁} walk =
-          let node = subst (λ (k : ℕ). NodeWalked q below nodes dots rects row found (first + k) levels row₁ f₁) (sym this) walk in
+          let node = subst (λ (k : ℕ). NodeWalked q below (holding nodes dots rects) row found (first + k) levels row₁ f₁) (sym this) walk in
           record {
-            asks = subst (GroupWalk q cell quadrants nodes dots rects f₁ first levels) others (group-rest row some a.asks its row₁ f₁ node);
+            asks = subst (GroupWalk q cell quadrants (holding nodes dots rects) f₁ first levels) others (group-rest row some a.asks its row₁ f₁ node);
             whole = λ row' r g. a.whole row' r
                 (group_gives row some a.asks its row₁ f₁ node (told-here told) row' r
-                (subst (λ (k : ℕ). GroupWalked q cell nodes dots rects row₁ f₁ first levels k row' r) (sym others) g));
+                (subst (λ (k : ℕ). GroupWalked q cell (holding nodes dots rects) row₁ f₁ first levels k row' r) (sym others) g));
           }
 
-  pub ahead_end : 5 ≤ child → GroupWalked q cell nodes dots rects row₀ found₀ first levels 5 row found
+  pub ahead_end : 5 ≤ child → GroupWalked q cell (holding nodes dots rects) row₀ found₀ first levels 5 row found
   ahead_end z = a.whole row found (group-none q cell nodes dots rects row found first levels (5 - child) (omega arith))

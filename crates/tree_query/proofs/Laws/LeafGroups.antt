@@ -4,7 +4,7 @@
 --     group_empty                  no child is left
 --     group-child, group-others, group-leaves      the first child's walk; what the others' asks; both together
 --     Ahead        the loop over the children: what it has left to do leads to the whole
---     ahead-start, ahead-child, ahead-next, ahead_end      its begin; a child's walk; a turn; its end
+--     ahead-child, ahead-next, ahead_end       a child's walk; a turn; its end
 use Rattle.std.specs.Prelude.{◌≡◌, List, [], ◌++◌, ℕ, ◌+◌, ◌*◌, ◌-◌, ◌≤◌, ◌<◌, ℤ, length}
 use Rattle.std.proofs.Math.Path.{refl, ap, subst}
 use Rattle.std.proofs.Common.{sym, ◌∙◌, arith, length-append}
@@ -120,10 +120,6 @@ pub record Ahead (nd : NodeData) (nodes : List ℕ) (row₀ : List ℤ) (at₀ f
   pub asks : LeafGroup nd nodes at first levels (5 - child)
   pub whole : (row' : List ℤ) (r : ℕ) → LeafGroupWalked nd nodes row at first levels (5 - child) row' r
       → LeafGroupWalked nd nodes row₀ at₀ first levels 4 row' r
-
-pub ahead-start : {nd : NodeData} {nodes : List ℕ} (row : List ℤ) {at first levels : ℕ} → LeafGroup nd nodes at first levels 4
-    → Ahead nd nodes row at first levels row at 1
-ahead-start row w = record { from = omega arith; asks = w; whole = λ row' r g. g }
 
 module _ {nd : NodeData} {nodes : List ℕ} {row₀ : List ℤ} {at₀ first levels : ℕ} {row : List ℤ} {at child : ℕ}
     (a : Ahead nd nodes row₀ at₀ first levels row at child) where

@@ -1,7 +1,7 @@
 -- The walk over the leaves of a node, by what the code reads of it: a law for each way through the code.
---     leaf-asks, leaf_gives        a leaf; six-kept: its words
+--     leaf-asks, leaf_gives        a leaf
 --     branch-level, branch-asks, branch_gives      a branch: a level is left; its group's walk
-use Rattle.std.specs.Prelude.{◌≡◌, Bool, true, false, not, ℕ, suc, ◌+◌, ◌*◌, ◌-◌, ◌≤◌, ◌<◌, eqb, ℤ, pos, set}
+use Rattle.std.specs.Prelude.{◌≡◌, Bool, true, false, not, ℕ, ◌+◌, ◌*◌, ◌-◌, ◌≤◌, ◌<◌, eqb, ℤ}
 use Rattle.std.proofs.Math.Path.{ap, subst}
 use Rattle.std.proofs.Common.{◌∙◌, arith}
 use mathlib.Core.List.{List}
@@ -96,24 +96,3 @@ module _ (nd : NodeData) (nodes : List ℕ) (row : List ℤ) (at a levels : ℕ)
         go (branch g f) s =
             subst (λ (words : List ℤ). LeavesLeft row at words row' r) (join-four (λ i. leaves_of (child_data nd i) (f i)))
             ((rw words at w) g f s.shaped.1 (λ i low b. child-stands s i b))
-
--- ---- six words, one after another
-
-module _ (row : List ℤ) (at : ℕ) (n : NodeData) {count : ℕ} {r₁ r₂ r₃ r₄ r₅ r₆ : List ℤ} {cx cy hw hh depth many : ℤ} where
-  pub six-kept : cx ≡ n.cell.center_x → cy ≡ n.cell.center_y → hw ≡ n.cell.half_width → hh ≡ n.cell.half_height
-      → depth ≡ pos n.depth → many ≡ pos count
-      → r₁ ≡ set row at cx → r₂ ≡ set r₁ (at + 1) cy → r₃ ≡ set r₂ (at + 2) hw
-      → r₄ ≡ set r₃ (at + 3) hh → r₅ ≡ set r₄ (at + 4) depth → r₆ ≡ set r₅ (at + 5) many
-      → r₆ ≡ sets row at (words_of n count)
-  six-kept a b c d e f p₁ p₂ p₃ p₄ p₅ p₆ =
-      let k₁ : at + 1 ≡ suc at = omega arith in
-      let k₂ : at + 2 ≡ suc (suc at) = omega arith in
-      let k₃ : at + 3 ≡ suc (suc (suc at)) = omega arith in
-      let k₄ : at + 4 ≡ suc (suc (suc (suc at))) = omega arith in
-      let k₅ : at + 5 ≡ suc (suc (suc (suc (suc at)))) = omega arith in
-      let q₁ = p₁ ∙ (λ i. set row at (a i)) in
-      let q₂ = p₂ ∙ (λ i. set (q₁ i) (k₁ i) (b i)) in
-      let q₃ = p₃ ∙ (λ i. set (q₂ i) (k₂ i) (c i)) in
-      let q₄ = p₄ ∙ (λ i. set (q₃ i) (k₃ i) (d i)) in
-      let q₅ = p₅ ∙ (λ i. set (q₄ i) (k₄ i) (e i)) in
-      p₆ ∙ (λ i. set (q₅ i) (k₅ i) (f i))

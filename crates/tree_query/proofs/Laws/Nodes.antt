@@ -23,6 +23,7 @@ use Rattle.model.specs.Memory.{first_at, count_at}
 use Rattle.model.specs.declared.answers.Found.{Found}
 use Rattle.memory.specs.declared.node.Node.{Node}
 use Rattle.memory.specs.Nodes.{node_at}
+use Rattle.memory.specs.Lent.{holding}
 use Rattle.tree.specs.Trees.{node_total, sum_last, TreeStands}
 use Rattle.tree.proofs.Laws.Trees.{not-branch, is-branch, mark-no_leaf, shallow-branch, child-stands}
 use Rattle.tree_query.specs.Walks.{chain_hits, after, row_after, Left, CanGrow}
@@ -39,7 +40,7 @@ module _ (nodes dots : List ℕ) (rects : List ℤ) (row : List ℕ) (found : Fo
   -- ---- a leaf
 
   module _ (n : not b ≡ true) where
-    pub leaf-asks : NodeWalk cell nodes dots rects found a levels
+    pub leaf-asks : NodeWalk cell (holding nodes dots rects) found a levels
         → ChainWalk dots rects (opening found) node.first node.count
     leaf-asks w = rw words (go w.tree w.stands w.grows)
       where
@@ -56,7 +57,7 @@ module _ (nodes dots : List ℕ) (rects : List ℤ) (row : List ℕ) (found : Fo
         go (branch g f) s c = absurd (not-branch nodes a words told n s.represents.0)
 
     pub leaf_gives : (row' : List ℕ) (r : Found) → ChainWalked q dots rects row (opening found) node.first node.count row' r
-        → NodeWalked q cell nodes dots rects row found a levels row' r
+        → NodeWalked q cell (holding nodes dots rects) row found a levels row' r
     unfolding ChainWalked NodeWalked after row_after
     leaf_gives row' r w = go
       where
@@ -77,19 +78,19 @@ module _ (nodes dots : List ℕ) (rects : List ℤ) (row : List ℕ) (found : Fo
     no-leaf : (chain : List Placed) → TreeStands nodes dots rects levels a (leaf chain) → ⊥
     no-leaf chain s = mark-no_leaf chain s.few s.represents.0 (is-branch nodes a words told n)
 
-    pub branch-level : NodeWalk cell nodes dots rects found a levels → 1 ≤ levels
+    pub branch-level : NodeWalk cell (holding nodes dots rects) found a levels → 1 ≤ levels
     branch-level w = go w.tree w.stands
       where
         go : (t : Tree) → TreeStands nodes dots rects levels a t → 1 ≤ levels
         go (leaf chain) s = absurd (no-leaf chain s)
         go (branch g f) s = (shallow-branch levels g f s.shallow).0
 
-    pub branch-asks : (quadrants : Quadrants) → quadrants.code ≡ cell_code cell q.rect → NodeWalk cell nodes dots rects found a levels
-        → GroupWalk q cell quadrants nodes dots rects (opening found) node.first (levels - 1) 5
+    pub branch-asks : (quadrants : Quadrants) → quadrants.code ≡ cell_code cell q.rect → NodeWalk cell (holding nodes dots rects) found a levels
+        → GroupWalk q cell quadrants (holding nodes dots rects) (opening found) node.first (levels - 1) 5
     branch-asks quadrants e w = rw words (go w.tree w.stands w.grows)
       where
         go : (t : Tree) → TreeStands nodes dots rects levels a t → CanGrow found (size t) (node_total t)
-            → GroupWalk q cell quadrants nodes dots rects (opening found) (first_at nodes a) (levels - 1) 5
+            → GroupWalk q cell quadrants (holding nodes dots rects) (opening found) (first_at nodes a) (levels - 1) 5
         go (leaf chain) s c = absurd (no-leaf chain s)
         go (branch g f) s c =
             record {
@@ -104,8 +105,8 @@ module _ (nodes dots : List ℕ) (rects : List ℤ) (row : List ℕ) (found : Fo
             }
 
     pub branch_gives : (row' : List ℕ) (r : Found)
-        → GroupWalked q cell nodes dots rects row (opening found) node.first (levels - 1) 5 row' r
-        → NodeWalked q cell nodes dots rects row found a levels row' r
+        → GroupWalked q cell (holding nodes dots rects) row (opening found) node.first (levels - 1) 5 row' r
+        → NodeWalked q cell (holding nodes dots rects) row found a levels row' r
     unfolding GroupWalked NodeWalked after row_after
     branch_gives row' r w = go
       where

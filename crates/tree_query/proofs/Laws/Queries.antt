@@ -24,6 +24,7 @@ use Rattle.model.proofs.Laws.Layout.{holds-settings}
 use Rattle.model.proofs.Laws.Memory.{holds-represented}
 use Rattle.model.proofs.Laws.Lists.{length-map}
 use Rattle.model.proofs.Laws.Listing.{listed_le}
+use Rattle.memory.specs.Lent.{holding}
 use Rattle.tree.specs.Operations.{IsTree}
 use Rattle.tree.proofs.Laws.Operations.{tree-settings}
 use Rattle.tree.proofs.Laws.Trees.{root_stands, root_total}
@@ -33,7 +34,7 @@ use Rattle.tree_query.specs.Answers.{Met, Counted, Queried}
 use Rattle.tree.proofs.Laws.Rows.{sets_whole}
 
 module _ (s : State) (nodes dots : List ℕ) (rects : List ℤ) where
-  pub tree-root : IsTree s nodes dots rects → root_fits s.settings ≡ true
+  pub tree-root : IsTree s (holding nodes dots rects) → root_fits s.settings ≡ true
   tree-root t = (accepted s.settings (tree-settings t)).root
 
   -- ---- the walk
@@ -42,8 +43,8 @@ module _ (s : State) (nodes dots : List ℕ) (rects : List ℤ) where
   abbrev start : Found
   start = record { hits = 0; opened = 0 }
 
-  pub root-walk : {cell : CenteredAABB} {levels : ℕ} → IsTree s nodes dots rects → cell ≡ root_cell s.settings → levels ≡ D s.settings
-      → NodeWalk cell nodes dots rects start 0 levels
+  pub root-walk : {cell : CenteredAABB} {levels : ℕ} → IsTree s (holding nodes dots rects) → cell ≡ root_cell s.settings → levels ≡ D s.settings
+      → NodeWalk cell (holding nodes dots rects) start 0 levels
   root-walk t e deep =
       let stands = root_stands s nodes dots rects t.marks t.shape t.holds in
       record {
@@ -54,8 +55,8 @@ module _ (s : State) (nodes dots : List ℕ) (rects : List ℤ) where
       }
 
   pub root-met : (q : Window) (row : List ℕ) {cell : CenteredAABB} {levels : ℕ} (row' : List ℕ) (r : Found)
-      → cell ≡ root_cell s.settings → levels ≡ D s.settings → NodeWalked q cell nodes dots rects row start 0 levels row' r
-      → Met s q nodes dots rects row row' r
+      → cell ≡ root_cell s.settings → levels ≡ D s.settings → NodeWalked q cell (holding nodes dots rects) row start 0 levels row' r
+      → Met s q (holding nodes dots rects) row row' r
   unfolding NodeWalked Met after row_after listed opens_for root_data
   root-met q row row' r e deep walked = λ marks x h.
       let n = root x in
@@ -67,13 +68,13 @@ module _ (s : State) (nodes dots : List ℕ) (rects : List ℤ) where
       let nodes-opened : 0 + opened q.rect n x.tree ≡ opened q.rect n x.tree = omega arith in
       (l.answer ∙ (λ i. record { hits = many i; opened = nodes-opened i }), l.written)
 
-  pub met-counted : (q : Window) (row row' : List ℕ) (r : Found) → Met s q nodes dots rects row row' r → Counted s q nodes dots rects r
+  pub met-counted : (q : Window) (row row' : List ℕ) (r : Found) → Met s q (holding nodes dots rects) row row' r → Counted s q (holding nodes dots rects) r
   unfolding Met Counted
   met-counted q row row' r m = λ marks x h. (m marks x h).0
 
   -- ---- how many there are
 
-  counted-hits : (q : Window) (r : Found) → Counted s q nodes dots rects r
+  counted-hits : (q : Window) (r : Found) → Counted s q (holding nodes dots rects) r
       → (marks : List ℕ) (x : Shape) → Holds (world s nodes dots rects marks) x → r.hits ≡ length (listed q x)
   unfolding Counted
   counted-hits q r c marks x h = ap (λ (f : Found). f.hits) (c marks x h)
@@ -81,8 +82,8 @@ module _ (s : State) (nodes dots : List ℕ) (rects : List ℤ) where
   -- ---- the answer
 
   -- refusal 8: the ids outnumber the row, and nothing is changed
-  pub queried_many : (q : Window) (row : List ℕ) (r : Found) → Counted s q nodes dots rects r → length row < r.hits
-      → Queried s q nodes dots rects row row (too_many r.hits)
+  pub queried_many : (q : Window) (row : List ℕ) (r : Found) → Counted s q (holding nodes dots rects) r → length row < r.hits
+      → Queried s q (holding nodes dots rects) row row (too_many r.hits)
   unfolding Queried query_rule cleared
   queried_many q row r c short = λ marks x h.
       let many = counted-hits q r c marks x h in
@@ -96,12 +97,12 @@ module _ (s : State) (nodes dots : List ℕ) (rects : List ℤ) where
   pub room-live : (q : Window) (room : ℕ) → s.live ≤ room → Fits q room
   room-live q room l marks x h = omega (arith, listed_le q x h.valid, (holds-represented (world s nodes dots rects marks) x h).live)
 
-  pub room-counted : (q : Window) (room : ℕ) (r : Found) → Counted s q nodes dots rects r → r.hits ≤ room → Fits q room
+  pub room-counted : (q : Window) (room : ℕ) (r : Found) → Counted s q (holding nodes dots rects) r → r.hits ≤ room → Fits q room
   room-counted q room r c l marks x h = omega (arith, counted-hits q r c marks x h)
 
   -- the row begins with the ids and keeps its tail
-  pub queried_listed : (q : Window) (row row' : List ℕ) (r : Found) → Met s q nodes dots rects row row' r
-      → Fits q (length row) → Queried s q nodes dots rects row row' (answered r)
+  pub queried_listed : (q : Window) (row row' : List ℕ) (r : Found) → Met s q (holding nodes dots rects) row row' r
+      → Fits q (length row) → Queried s q (holding nodes dots rects) row row' (answered r)
   unfolding Met Queried query_rule cleared
   queried_listed q row row' r m fits = λ marks x h.
       let found = m marks x h in

@@ -1,6 +1,5 @@
 -- The check, then all without it.
 use Rattle.model.proofs.Laws.Refusals.{handed-on}
-use Rattle.calls.proofs.Laws.Pattern.{checked-dots}
 use Rattle.calls.proofs.Laws.Calls.{all-refused, all-answered}
 use Rattle.calls.proofs.all.all.Goals as goal
 

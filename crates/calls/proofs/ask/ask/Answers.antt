@@ -1,6 +1,5 @@
 -- The check, then the ask without it.
 use Rattle.model.proofs.Laws.Refusals.{handed-on}
-use Rattle.calls.proofs.Laws.Pattern.{checked-tree}
 use Rattle.calls.proofs.Laws.Calls.{ask-refused, ask-answered}
 use Rattle.calls.proofs.ask.ask.Goals as goal
 

@@ -1,6 +1,5 @@
 -- The check, then the cleanup without it.
 use Rattle.model.proofs.Laws.Refusals.{handed-on}
-use Rattle.calls.proofs.Laws.Pattern.{checked-nodes}
 use Rattle.calls.proofs.Laws.Calls.{cleanup-refused, cleanup-answered}
 use Rattle.calls.proofs.cleanup.cleanup.Goals as goal
 

@@ -1,6 +1,5 @@
 -- The check, then the leaves without it.
 use Rattle.model.proofs.Laws.Refusals.{handed-on}
-use Rattle.calls.proofs.Laws.Pattern.{checked-nodes}
 use Rattle.calls.proofs.Laws.Calls.{leaves-refused, leaves-answered}
 use Rattle.calls.proofs.leaves.leaves.Goals as goal
 

@@ -1,6 +1,5 @@
 -- The check, then the query without it.
 use Rattle.model.proofs.Laws.Refusals.{handed-on}
-use Rattle.calls.proofs.Laws.Pattern.{checked-tree}
 use Rattle.calls.proofs.Laws.Calls.{query-refused, query-answered}
 use Rattle.calls.proofs.query.query.Goals as goal
 

@@ -1,6 +1,5 @@
 -- The check, then the report without it.
 use Rattle.model.proofs.Laws.Refusals.{handed-on}
-use Rattle.calls.proofs.Laws.Pattern.{checked-rects}
 use Rattle.calls.proofs.Laws.Calls.{grid_refused, grid_answered_lem}
 use Rattle.calls.proofs.report.grid_report.Goals as goal
 

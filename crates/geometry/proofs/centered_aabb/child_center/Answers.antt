@@ -7,15 +7,6 @@ use Rattle.geometry.proofs.centered_aabb.child_center.Goals as goal
 
 ruleset fitting = (sum_fits, upper_fits, lower-fits, half-fits, rules)
 
-pub overflow_add-result : goal.overflow_add-result
-overflow_add-result c = search (rules, fitting)
-
-pub overflow_sub-result : goal.overflow_sub-result
-overflow_sub-result c = search (rules, fitting)
-
-pub overflow_sub-result-else-upper : goal.overflow_sub-result-else-upper
-overflow_sub-result-else-upper c = search (rules, fitting)
-
 pub returns-then-upper : goal.returns-then-upper
 unfolding child_centre
 returns-then-upper c = search (fitting, c.if-upper.true)

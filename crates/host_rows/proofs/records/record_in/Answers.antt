@@ -1,5 +1,4 @@
 -- The kind, and the dot after it.
-use Rattle.std.proofs.Common.{get_or, ◌*◌}
 use Rattle.host_rows.specs.Records.{record_in}
 use Rattle.host_rows.proofs.records.record_in.Goals as goal
 

@@ -1,5 +1,4 @@
 -- Three stores, and the count.
-use Rattle.std.proofs.Common.{length-set, refl, ◌∙◌}
 use Rattle.host_rows.specs.Rows.{with_state}
 use Rattle.host_rows.proofs.rows.state_out.Goals as goal
 

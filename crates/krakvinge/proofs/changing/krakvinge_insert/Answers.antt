@@ -11,9 +11,9 @@ change_out-requires c = twelve-two _ _ c.rows_fit.ensures (ap not c.if-not-rows_
 pub returns : goal.returns
 returns c =
     let f = c.ranges in
-    let said = rw (told f.x1 f.y1 f.x2 f.y2) at c.insert-done.ensures in
+    let said = rw (told f.x1 f.y1 f.x2 f.y2) at c.insert-done.ensures.obeys in
     exported_changed (λ t. change_state t c.insert-done.result) _ c.rows_fit.ensures (ap not c.if-not-rows_fit.false)
-    c.state_in-before.ensures.0 said c.change_out.ensures.0 c.change_out.ensures.1
+    c.state_in-before.ensures.0 said (search rules) c.change_out.ensures.0 c.change_out.ensures.1
 
 pub returns-then-not-rows_fit : goal.returns-then-not-rows_fit
 returns-then-not-rows_fit c = search (rules, exported_other)

@@ -13,9 +13,9 @@ yes_no_out-requires c =
 pub returns : goal.returns
 returns c =
     let f = c.ranges in
-    let said = rw (told f.x1 f.y1 f.x2 f.y2) at c.remove-done.ensures in
+    let said = rw (told f.x1 f.y1 f.x2 f.y2) at c.remove-done.ensures.obeys in
     exported_changed (λ t. yes_no_state t c.remove-done.result) _ c.rows_fit.ensures (ap not c.if-not-rows_fit.false)
-    c.state_in-before.ensures.0 said c.yes_no_out.ensures.0 c.yes_no_out.ensures.1
+    c.state_in-before.ensures.0 said (search rules) c.yes_no_out.ensures.0 c.yes_no_out.ensures.1
 
 pub returns-then-not-rows_fit : goal.returns-then-not-rows_fit
 returns-then-not-rows_fit c = search (rules, exported_other)

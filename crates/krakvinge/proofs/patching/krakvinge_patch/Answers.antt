@@ -1,5 +1,5 @@
 -- Refusal 13, a test of both rows, then the call's own contract.
-use Rattle.std.proofs.Common.{ap, not, ◌∙◌, ◌≡◌}
+use Rattle.std.proofs.Common.{ap, not, rules, ◌∙◌, ◌≡◌}
 use Rattle.model.specs.Answers.{change_state}
 use Rattle.model.specs.Patch.{patch_fits}
 use Rattle.host_rows.specs.Rows.{patch_of}
@@ -30,7 +30,7 @@ change_out-requires c = twelve-two _ _ c.rows_fit.ensures (ap not c.if-not-rows_
 pub returns : goal.returns
 returns c =
     let f = c.ranges in
-    let said = rw (told-patch f.x f.y) at c.patch-done.ensures in
+    let said = rw (told-patch f.x f.y) at c.patch-done.ensures.obeys in
     patch-good (tested (goal.at.returns c).After-in_range) (ap not c.if-not-in_range.false)
     (exported_changed (λ t. change_state t c.patch-done.result) _ c.rows_fit.ensures (ap not c.if-not-rows_fit.false)
-    c.state_in-before.ensures.0 said c.change_out.ensures.0 c.change_out.ensures.1)
+    c.state_in-before.ensures.0 said (search rules) c.change_out.ensures.0 c.change_out.ensures.1)

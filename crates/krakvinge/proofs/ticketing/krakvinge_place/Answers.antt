@@ -18,9 +18,9 @@ change_out-requires c =
 
 pub returns : goal.returns
 returns c =
-    let said = rw c.ticket_in-given.ensures at c.place-done.ensures in
+    let said = rw c.ticket_in-given.ensures at c.place-done.ensures.obeys in
     exported_changed (λ t. change_state t c.place-done.result) _ c.ticket_fits.ensures (ap not c.if-not-ticket_fits.false)
-    c.state_in-before.ensures.0 said c.change_out.ensures.0 c.change_out.ensures.1
+    c.state_in-before.ensures.0 said (search rules) c.change_out.ensures.0 c.change_out.ensures.1
 
 pub returns-then-not-ticket_fits : goal.returns-then-not-ticket_fits
 returns-then-not-ticket_fits c = search (rules, exported_other)

@@ -3,9 +3,6 @@ use Rattle.std.proofs.Common.{rules}
 use Rattle.tint.proofs.Laws.Counts.{before-tiles, tiles}
 use Rattle.tint.proofs.count.dots_before.Goals as goal
 
-pub overflow_mul-result : goal.overflow_mul-result
-overflow_mul-result c = search (rules, tiles)
-
 pub overflow_add-result-2 : goal.overflow_add-result-2
 overflow_add-result-2 c = search (rules, tiles)
 

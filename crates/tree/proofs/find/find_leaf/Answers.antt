@@ -30,23 +30,11 @@ pub returns : goal.returns
 unfolding branch_mark
 returns c = down-arrived c.requires c.root-data.ensures c.loop-words.invariant c.loop-words-test.false
 
-pub root-data-requires : goal.root-data-requires
-root-data-requires c = c.requires.accepted
-
 pub node_at-words-requires : goal.node_at-words-requires
 node_at-words-requires c = root-has c.requires
 
 pub loop-words-init : goal.loop-words-init
 loop-words-init c = down-start c.requires c.root-data.ensures c.node_at-words.ensures
-
-pub overflow_cast-node : goal.overflow_cast-node
-overflow_cast-node c = let k = child (goal.at.overflow_cast-node c).After-route-child in omega arith
-
-pub overflow_cast-node-in-loop-words : goal.overflow_cast-node-in-loop-words
-overflow_cast-node-in-loop-words c = let k = child (goal.at.overflow_cast-node-in-loop-words c).After-route-child in omega arith
-
-pub overflow_add-node : goal.overflow_add-node
-overflow_add-node c = let k = child (goal.at.overflow_add-node c).After-route-child in omega arith
 
 pub node_at-words-requires-in-loop-words : goal.node_at-words-requires-in-loop-words
 node_at-words-requires-in-loop-words c = (child (goal.at.node_at-words-requires-in-loop-words c).After-route-child).1

@@ -1,12 +1,9 @@
 use Rattle.std.proofs.Common.{arith, rules, ◌≤◌}
 use Rattle.tree_all.proofs.Laws.Nodes.{node_in, leaf-asks, leaf_gives, branch-level, branch-asks, branch_gives}
-use Rattle.tree_all.proofs.Laws.Groups.{ahead-start, ahead-child, ahead-next, ahead_end}
+use Rattle.tree_all.proofs.Laws.Groups.{ahead-child, ahead-next, ahead_end}
 use Rattle.tree_all.proofs.walk.+list_group_list_node.Goals as goal
 
 -- ---- a group
-
-pub list_group-loop-child-init : goal.list_group-loop-child-init
-list_group-loop-child-init t c = search (ahead-start, rules)
 
 pub list_group-list_node-next-requires : goal.list_group-list_node-next-requires
 list_group-list_node-next-requires t c = (omega arith, search (ahead-child, rules))

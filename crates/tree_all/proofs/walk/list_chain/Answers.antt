@@ -1,6 +1,6 @@
-use Rattle.std.proofs.Common.{arith, refl, ◌∙◌}
+use Rattle.std.proofs.Common.{refl, ◌∙◌}
 use Rattle.memory.proofs.Laws.Chains.{passed}
-use Rattle.tree_all.proofs.Laws.Chains.{has-chain, rest-start, rest-turn, rest-place, rest-room, rest_end}
+use Rattle.tree_all.proofs.Laws.Chains.{has-chain, rest-start, rest-turn, rest-place, rest_end}
 use Rattle.tree_all.proofs.walk.list_chain.Goals as goal
 
 pub loop-place-init : goal.loop-place-init
@@ -10,13 +10,6 @@ loop-place-init c =
 
 pub id_at-requires : goal.id_at-requires
 id_at-requires c = rest-place c.loop-place.invariant.3 c.requires (passed c.loop-place.invariant.2 c.in-Some.ensures.steps.1)
-
-pub bounds-row-at : goal.bounds-row-at
-bounds-row-at c = (rest-room c.loop-place.invariant.3 c.requires (passed c.loop-place.invariant.2 c.in-Some.ensures.steps.1)).0
-
-pub overflow_add-at : goal.overflow_add-at
-overflow_add-at c =
-    omega (arith, (rest-room c.loop-place.invariant.3 c.requires (passed c.loop-place.invariant.2 c.in-Some.ensures.steps.1)).1)
 
 pub loop-place-preserved : goal.loop-place-preserved
 loop-place-preserved c =

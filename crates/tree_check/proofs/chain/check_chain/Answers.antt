@@ -1,10 +1,6 @@
 use Rattle.std.proofs.Common.{arith, rules, ◌<◌, ◌-◌, ◌+◌, ◌≡◌, ◌≤◌}
-use Rattle.std.proofs.Math.Nat.{sub-zero}
-use Rattle.tree_check.proofs.Laws.Chains.{left-start, left_far, left_seen, left_bad, left-next, left_end}
+use Rattle.tree_check.proofs.Laws.Chains.{left_far, left_seen, left_bad, left-next, left_end}
 use Rattle.tree_check.proofs.chain.check_chain.Goals as goal
-
-pub loop-init : goal.loop-init
-loop-init c = rw (sub-zero c.args.chain.count) (search left-start)
 
 pub returns-then-place-places : goal.returns-then-place-places
 returns-then-place-places c =
@@ -15,9 +11,6 @@ pub returns-then-marks-place-ne0 : goal.returns-then-marks-place-ne0
 returns-then-marks-place-ne0 c =
     let some : 0 < c.args.chain.count - c.loop.counter = omega arith in
     search (rules, left_seen)
-
-pub dot_at-requires : goal.dot_at-requires
-dot_at-requires c = (omega arith, omega arith)
 
 pub returns-then-not-passes : goal.returns-then-not-passes
 returns-then-not-passes c =

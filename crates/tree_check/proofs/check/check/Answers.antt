@@ -7,7 +7,7 @@ use Rattle.tree_check.proofs.check.check.Goals as goal
 pub is_tree-tree-requires : goal.is_tree-tree-requires
 is_tree-tree-requires c =
     let a = c.args in
-    check_ready a.state a.nodes.now a.dots.now a.rects.now a.marks.now
+    check_ready a.state a.rows.nodes.now a.rows.dots.now a.rows.rects.now a.marks.now
     c.lengths_fit.ensures (ap not c.if-not-lengths_fit.false) c.in_range.ensures (ap not c.if-not-in_range.false)
     c.clear_marks.ensures c.places_in-places.ensures c.groups_in-groups.ensures
 

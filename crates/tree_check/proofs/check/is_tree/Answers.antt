@@ -5,7 +5,7 @@ use Rattle.tree_check.proofs.Laws.Checks.{Freed, no-live, no-tree, free-ready, n
 use Rattle.tree_check.proofs.check.is_tree.Goals as goal
 use Rattle.tree_check.proofs.check.is_tree.Goals.{Else-not-check_free}
 
-freed : (c : Else-not-check_free) → Freed c.args.state c.args.nodes.now c.args.dots.now c.args.rects.now
+freed : (c : Else-not-check_free) → Freed c.args.state c.args.rows.nodes.now c.args.rows.dots.now c.args.rows.rects.now
     c.args.marks.now c.args.places c.args.groups c.check_free.new.marks
 freed c =
     groups-found c.requires c.root-root.ensures _ _ c.check_node.ensures (ap not c.if-not-check_node.false) _ _

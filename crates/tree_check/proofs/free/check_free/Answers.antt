@@ -1,10 +1,6 @@
 use Rattle.std.proofs.Common.{arith, rules, ap, not, ◌≡◌, ◌-◌}
-use Rattle.std.proofs.Math.Nat.{sub-zero}
-use Rattle.tree_check.proofs.Laws.Frees.{free-start, free-none, free_seen, free_bad, free-next, free_end, free-last}
+use Rattle.tree_check.proofs.Laws.Frees.{free-none, free_seen, free_bad, free-next, free_end, free-last}
 use Rattle.tree_check.proofs.free.check_free.Goals as goal
-
-pub loop-init : goal.loop-init
-loop-init c = rw (sub-zero c.args.most) (search free-start)
 
 pub returns-then-link : goal.returns-then-link
 returns-then-link c = search (rules, free_end)

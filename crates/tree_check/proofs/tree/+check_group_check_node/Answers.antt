@@ -1,14 +1,11 @@
 use Rattle.std.proofs.Common.{rules, arith, ◌<◌, ◌≤◌, ◌+◌}
 use Rattle.tree_check.specs.Trees.{GroupReady}
 use Rattle.tree_check.proofs.Laws.Regions.{levels, sound-below, levels-below, levels-some, shallow-depth}
-use Rattle.tree_check.proofs.Laws.Trees.{chain-ready, marked-ready, group-given, leaf-over, leaf-scanned, no-split, no-group, seen_group, branch-scanned}
-use Rattle.tree_check.proofs.Laws.Groups.{ahead-start, ahead-empty, ahead-next, ahead_bad, ahead_end}
+use Rattle.tree_check.proofs.Laws.Trees.{marked-ready, group-given, leaf-over, leaf-scanned, no-split, no-group, seen_group, branch-scanned}
+use Rattle.tree_check.proofs.Laws.Groups.{ahead-empty, ahead-next, ahead_bad, ahead_end}
 use Rattle.tree_check.proofs.tree.+check_group_check_node.Goals as goal
 
 -- ---- a group
-
-pub check_group-loop-child-init : goal.check_group-loop-child-init
-check_group-loop-child-init t c = search (ahead-start, rules)
 
 -- an empty leaf
 pub check_group-loop-child-preserved-then-is_empty : goal.check_group-loop-child-preserved-then-is_empty
@@ -61,9 +58,6 @@ check_node-check_group-requires t c =
 -- a leaf: too many dots; its chain
 pub check_node-returns-then-splits-words : goal.check_node-returns-then-splits-words
 check_node-returns-then-splits-words t c = search (leaf-over, rules)
-
-pub check_node-check_chain-requires : goal.check_node-check_chain-requires
-check_node-check_chain-requires t c = search (chain-ready, rules)
 
 -- the two answers
 pub check_node-returns-else-marks-places-ne0 : goal.check_node-returns-else-marks-places-ne0

@@ -14,4 +14,4 @@ decreases-check_node l = 2 * levels l.region
 
 abbrev pub invariant-check_group-loop-child : goal.invariant-check_group-loop-child
 invariant-check_group-loop-child l =
-    Ahead l.region l.nodes l.dots l.rects l.places l.groups l.group l.initial.marks l.marks l.child
+    Ahead l.region l.rows.nodes.now l.rows.dots.now l.rows.rects.now l.places l.groups l.group l.initial.marks l.marks l.child

@@ -1,25 +1,10 @@
 -- The columns and the rows that it meets; at most 64 × 64 windows, so no product is too large.
-use Rattle.std.proofs.Common.{ap₂, ◌*◌}
-use Rattle.tree_grid.proofs.Laws.Rects.{rect-asks, rect_adds, rect-meets, rect-wide, rect_weighs}
+use Rattle.tree_grid.proofs.Laws.Rects.{rect-asks, rect_weighs}
 use Rattle.tree_grid.proofs.counts.add_rect.Goals as goal
 
 pub add_cells-requires : goal.add_cells-requires
 add_cells-requires c = rect-asks c.args.grid c.args.rect c.columns_met-across.ensures c.rows_met-down.ensures c.args.row.now
     c.args.weight c.column_count.ensures c.requires.0 c.requires.1 c.requires.3
-
-pub returns : goal.returns
-returns c =
-    let across = c.columns_met-across.ensures in
-    let down = c.rows_met-down.ensures in (
-      rect_adds c.args.grid c.args.rect across down _ _ _ c.column_count.ensures c.add_cells.ensures,
-      ap₂ ◌*◌ c.from.ensures (rect-meets c.args.grid c.args.rect across down c.len.ensures.value c.len-2.ensures.value),
-    )
-
-pub overflow_mul-met : goal.overflow_mul-met
-overflow_mul-met c =
-    let across = c.columns_met-across.ensures in
-    let down = c.rows_met-down.ensures in
-    record { fits = rect-wide c.args.grid c.args.rect across down c.len.ensures.value c.len-2.ensures.value c.requires.0 }
 
 pub overflow_mul-result : goal.overflow_mul-result
 overflow_mul-result c =

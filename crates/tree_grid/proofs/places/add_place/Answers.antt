@@ -1,14 +1,7 @@
 -- The zero rectangle, or another.
 use Rattle.std.proofs.Common.{arith}
-use Rattle.tree_grid.proofs.Laws.Places.{step-zero, step-add}
 use Rattle.tree_grid.proofs.Laws.Rects.{met-few}
 use Rattle.tree_grid.proofs.places.add_place.Goals as goal
 
-pub returns-then-is_zero : goal.returns-then-is_zero
-returns-then-is_zero c = step-zero _ _ _ c.is_zero.ensures c.if-is_zero.true c.args.pass
-
 pub overflow_add-result-2 : goal.overflow_add-result-2
 overflow_add-result-2 c = omega (arith, c.add_rect.ensures.1, met-few c.args.grid c.requires.windows_fit.0 c.args.rect, c.requires.total_bound.0)
-
-pub returns : goal.returns
-returns c = step-add _ _ _ c.is_zero.ensures c.if-is_zero.false c.args.pass _ _ c.add_rect.ensures

@@ -1,5 +1,5 @@
 -- The refusals in their order, then the counts.
-use Rattle.std.proofs.Common.{ap, arith, not}
+use Rattle.std.proofs.Common.{ap, not}
 use Rattle.tree_grid.proofs.Laws.Reports.{held, report_eleven, report-twelve, report-many, report-counted}
 use Rattle.tree_grid.proofs.report.report_row.Goals as goal
 
@@ -10,15 +10,9 @@ pub returns-then-not-corner_fits : goal.returns-then-not-corner_fits
 returns-then-not-corner_fits c = report-twelve c.args.state c.args.rects.now c.args.grid _ (held c.sizes_fit.ensures (ap not c.if-not-sizes_fit.false))
     c.corner_fits.ensures (ap not c.if-not-corner_fits.true)
 
-pub windows-windows-requires : goal.windows-windows-requires
-windows-windows-requires c = held c.sizes_fit.ensures (ap not c.if-not-sizes_fit.false)
-
 pub returns-then-row-windows : goal.returns-then-row-windows
 returns-then-row-windows c = report-many c.args.state c.args.rects.now c.args.grid _ (held c.sizes_fit.ensures (ap not c.if-not-sizes_fit.false))
     (held c.corner_fits.ensures (ap not c.if-not-corner_fits.false)) c.windows-windows.ensures c.if-row-windows.true
-
-pub count_windows-requires : goal.count_windows-requires
-count_windows-requires c = (c.requires, held c.sizes_fit.ensures (ap not c.if-not-sizes_fit.false), omega (arith, c.windows-windows.ensures, c.if-row-windows.false))
 
 pub returns : goal.returns
 returns c = report-counted c.args.state c.args.rects.now c.args.grid _ (held c.sizes_fit.ensures (ap not c.if-not-sizes_fit.false))

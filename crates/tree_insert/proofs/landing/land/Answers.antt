@@ -24,7 +24,7 @@ passed-5 c =
 
 counted : (c : After-splits_needed-needed) →
     let a = c.args in
-    Counted a.state a.nodes.now a.dots.now a.rects.now a.dot c.find_leaf-leaf.result c.splits_needed-needed.result
+    Counted a.state a.rows.nodes.now a.rows.dots.now a.rows.rects.now a.dot c.find_leaf-leaf.result c.splits_needed-needed.result
 counted c =
     let four : Not4 c.args.dot = search not_4 in
     let ten = not_10 four c.has_good_ink.ensures (ap not c.if-not-has_good_ink.false) in
@@ -47,10 +47,12 @@ splits_needed-needed-requires c = (
 )
 
 pub returns-then-not-has_good_ink : goal.returns-then-not-has_good_ink
-returns-then-not-has_good_ink c marks x h = refuse_10 h _ (passed-4 (goal.at.returns-then-not-has_good_ink c).Else-is_inverted-is_far_out) c.has_good_ink.ensures (search)
+returns-then-not-has_good_ink c marks x h =
+    refuse_10 h _ (passed-4 (goal.at.returns-then-not-has_good_ink c).Else-is_inverted-is_far_out) c.has_good_ink.ensures (search)
 
 pub returns-then-not-contains : goal.returns-then-not-contains
-returns-then-not-contains c marks x h = refuse_5 h _ (passed-10 (goal.at.returns-then-not-contains c).Else-not-has_good_ink) c.from.ensures c.contains.ensures (search)
+returns-then-not-contains c marks x h =
+    refuse_5 h _ (passed-10 (goal.at.returns-then-not-contains c).Else-not-has_good_ink) c.from.ensures c.contains.ensures (search)
 
 pub returns-then-places_in-live : goal.returns-then-places_in-live
 returns-then-places_in-live c marks x h = refuse_6 h _ (passed-5 (goal.at.returns-then-places_in-live c).Else-not-contains) c.places_in.ensures (search)
@@ -59,7 +61,8 @@ pub returns-in_default : goal.returns-in_default
 returns-in_default c marks x h = refuse_7 h _ (counted (goal.at.returns-in_default c).After-splits_needed-needed) c.in_default.is
 
 pub returns-then-not-can_count : goal.returns-then-not-can_count
-returns-then-not-can_count c marks x h = refuse_16 h _ (counted (goal.at.returns-then-not-can_count c).After-splits_needed-needed) c.in-Some.is c.can_count.ensures (search)
+returns-then-not-can_count c marks x h =
+    refuse_16 h _ (counted (goal.at.returns-then-not-can_count c).After-splits_needed-needed) c.in-Some.is c.can_count.ensures (search)
 
 pub returns : goal.returns
 returns c marks x h = lands h _ (counted (goal.at.returns c).After-splits_needed-needed) c.in-Some.is c.can_count.ensures (search)

@@ -1,4 +1,4 @@
-use Rattle.std.proofs.Common.{arith, rules, inl, inr, refl, ◌∙◌, ◌<◌}
+use Rattle.std.proofs.Common.{inl, inr, refl, ◌∙◌}
 use Rattle.memory.proofs.Laws.Chains.{passed}
 use Rattle.tree.proofs.Laws.Chains.{stands_has}
 use Rattle.tree_insert.proofs.Laws.SplitsNeeded.{tally_start, tally_here, tally_on, tally_over}
@@ -12,11 +12,6 @@ loop-place-init c =
 
 pub rect_at-requires : goal.rect_at-requires
 rect_at-requires c = tally_here c.loop-place.invariant.3 c.requires (passed c.loop-place.invariant.2 c.in-Some.ensures.steps.1)
-
-pub overflow_add-count : goal.overflow_add-count
-overflow_add-count c =
-    let fits : c.args.chain.count < 4294967296 = search rules in
-    omega (arith, c.loop-place.invariant.3.few, c.in-Some.ensures.steps.1.some)
 
 pub loop-place-preserved-then-holds : goal.loop-place-preserved-then-holds
 loop-place-preserved-then-holds c =

@@ -1,14 +1,13 @@
 use Rattle.std.proofs.Common.{arith}
 use Rattle.model.specs.Layout.{none}
 use Rattle.memory.specs.Rows.{HasNode}
-use Rattle.tree.proofs.Laws.Descent.{steps_most}
 use Rattle.tree_insert.proofs.Laws.FreeGroups.{walk_here}
 use Rattle.tree_insert.proofs.Laws.SplitsNeeded.{need_start, need_depth, need_fall, need_on, need_short, need_done}
 use Rattle.tree_insert.proofs.needed.splits_needed.Goals as goal
 use Rattle.tree_insert.proofs.needed.splits_needed.Goals.{Else-group}
 
 here : (c : Else-group) →
-    HasNode c.args.nodes.now c.descent.group
+    HasNode c.args.rows.nodes.now c.descent.group
 unfolding none
 here c =
     walk_here c.descent.invariant.walk c.requires.1 c.if-group.false
@@ -19,12 +18,6 @@ returns-then-group c = need_short c.descent.invariant c.requires.0 c.must_split.
 
 pub child-reached-requires : goal.child-reached-requires
 child-reached-requires c = (c.descent.invariant.range, omega (arith, need_depth c.descent.invariant c.requires.0 c.must_split.ensures c.descent-test.true))
-
-pub count_within-count-requires : goal.count_within-count-requires
-count_within-count-requires c = record { chain = c.requires.0.chain; stands = c.requires.0.stands }
-
-pub overflow_add-splits : goal.overflow_add-splits
-overflow_add-splits c = omega (arith, c.descent.invariant.few, steps_most c.args.node_data)
 
 pub descent-smaller : goal.descent-smaller
 descent-smaller c = need_fall c.descent.invariant c.requires.0 c.must_split.ensures c.descent-test.true _ c.child-reached.ensures
@@ -39,9 +32,6 @@ returns c = need_done c.descent.invariant c.requires.0 c.must_split.ensures c.de
 
 pub descent-init : goal.descent-init
 descent-init c = need_start c.requires.0 c.all-bounds.ensures
-
-pub overflow_cast-group : goal.overflow_cast-group
-overflow_cast-group c = let n = here (goal.at.overflow_cast-group c).Else-group in omega arith
 
 pub node_at-group-requires : goal.node_at-group-requires
 node_at-group-requires c = here (goal.at.node_at-group-requires c).Else-group

@@ -5,7 +5,9 @@ use Rattle.tree_insert.proofs.Laws.SplitsNeeded.{Counting}
 use Rattle.tree_insert.proofs.needed.splits_needed.Given as goal
 
 abbrev pub invariant-descent : goal.invariant-descent
-invariant-descent l = Counting l.settings l.nodes l.dots l.rects l.chain l.initial.reached l.rect l.initial.group l.group l.reached l.bounds l.count l.splits
+invariant-descent l =
+    Counting l.settings l.rows.nodes.now l.rows.dots.now l.rows.rects.now l.chain l.initial.reached l.rect
+    l.initial.group l.group l.reached l.bounds l.count l.splits
 
 abbrev pub decreases-descent : goal.decreases-descent
 decreases-descent l = steps_left l.reached

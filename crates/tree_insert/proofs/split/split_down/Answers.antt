@@ -1,8 +1,6 @@
-use Rattle.std.proofs.Common.{arith, ◌<◌}
-use Rattle.std.proofs.Math.Nat.{sub-zero}
-use Rattle.geometry.proofs.Laws.Geometry.{route-child}
+use Rattle.std.proofs.Common.{arith}
 use Rattle.tree_insert.specs.LeafSplit.{Splittable}
-use Rattle.tree_insert.proofs.Laws.SplitDown.{down-start, down-splits, down_data, down-on, down_done}
+use Rattle.tree_insert.proofs.Laws.SplitDown.{down-splits, down_data, down-on}
 use Rattle.tree_insert.proofs.split.split_down.Goals as goal
 use Rattle.tree_insert.proofs.split.split_down.Goals.{After-route-child, In-loop}
 
@@ -10,13 +8,6 @@ here : (c : In-loop) →
     Splittable c.loop.nodes c.loop.dots c.args.rects.now c.loop.node c.loop.head
 here c =
     down-splits c.requires c.loop.invariant (omega arith)
-
-child : (c : After-route-child) → c.route-child.result < 5
-child c =
-    omega (arith, c.route-child.ensures, route-child c.loop.node_data c.args.rect)
-
-pub overflow_add-node : goal.overflow_add-node
-overflow_add-node c = omega (arith, (here (goal.at.overflow_add-node c).In-loop).nodes_in, child (goal.at.overflow_add-node c).After-route-child)
 
 pub child-node_data-requires : goal.child-node_data-requires
 child-node_data-requires c =
@@ -27,12 +18,6 @@ pub loop-preserved : goal.loop-preserved
 loop-preserved c =
     down-on c.requires c.loop.invariant (omega arith) (omega arith) c.split_leaf-next.auto.nodes c.split_leaf-next.auto.dots
     c.split_leaf-next.ensures c.route-child.ensures c.child-node_data.ensures
-
-pub returns : goal.returns
-returns c = down_done c.requires c.loop.invariant (omega arith)
-
-pub loop-init : goal.loop-init
-loop-init c = rw (sub-zero c.args.splits) down-start
 
 pub split_leaf-next-requires : goal.split_leaf-next-requires
 split_leaf-next-requires c = here (goal.at.split_leaf-next-requires c).In-loop

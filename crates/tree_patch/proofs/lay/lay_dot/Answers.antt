@@ -6,20 +6,15 @@ use Rattle.tree_patch.proofs.lay.lay_dot.Goals as goal
 pub dot_at-dot-requires : goal.dot_at-dot-requires
 dot_at-dot-requires c = next_fits c.requires.1 c.requires.0.progress
 
-pub insert_dot-requires : goal.insert_dot-requires
-insert_dot-requires c =
-    let some = c.requires.0 in
-    record { marks = some.marks; shape = _; holds = some.progress.holds }
-
 pub overflow_add-result : goal.overflow_add-result
 overflow_add-result c = omega (arith, next-number c.requires.1 c.requires.0.progress)
 
-pub returns-in-Err : goal.returns-in-Err
-returns-in-Err c =
-    let inserted = c.insert_dot.ensures in
+pub returns-in-Err-clause-proceeds : goal.returns-in-Err-clause-proceeds
+returns-in-Err-clause-proceeds c =
+    let inserted = c.insert_dot.ensures.carried_out in
     record { on = λ marks x g. absurd (lay_refused c.requires.1 c.dot_at-dot.ensures _ inserted c.in-Err.is g) }
 
-pub returns-in-Ok : goal.returns-in-Ok
-returns-in-Ok c =
-    let inserted = c.insert_dot.ensures in
+pub returns-in-Ok-clause-proceeds : goal.returns-in-Ok-clause-proceeds
+returns-in-Ok-clause-proceeds c =
+    let inserted = c.insert_dot.ensures.carried_out in
     record { on = λ marks x g. lay_laid c.requires.1 c.dot_at-dot.ensures _ inserted c.in-Ok.is c.followed_by.ensures g }

@@ -1,5 +1,6 @@
 use Rattle.std.proofs.Common.{add-one, arith, refl, ◌*◌, ◌≡◌}
 use Rattle.model.specs.Thresholds.{thresholds}
+use Rattle.memory.proofs.Laws.Lent.{same-rows-refl, same-rows-then}
 use Rattle.tint.proofs.Laws.Within.{sides}
 use Rattle.tree_patch.proofs.Laws.Rows.{proceeds_none, proceeds_some, proceeds_then, rows_done}
 use Rattle.tree_patch.proofs.lay.lay_rows.Goals as goal
@@ -9,16 +10,18 @@ overflow_mul-height c = omega (arith, (sides _ c.requires.progress.fits).few_row
 
 pub loop-row-init : goal.loop-row-init
 unfolding thresholds
-loop-row-init c = (proceeds_none, refl)
+loop-row-init c = (same-rows-refl, proceeds_none, refl)
 
 pub lay_row-laid-requires : goal.lay_row-laid-requires
-lay_row-laid-requires c = (proceeds_some c.requires c.loop-row.invariant.0, c.loop-row-test.true, c.loop-row.invariant.1)
+lay_row-laid-requires c = (proceeds_some c.requires c.loop-row.invariant.1, c.loop-row-test.true, c.loop-row.invariant.2)
 
 pub loop-row-preserved : goal.loop-row-preserved
 loop-row-preserved c =
-    let inv = c.loop-row.invariant in (rw (add-one c.loop-row.row) (proceeds_then inv.0 c.lay_row-laid.ensures), inv.1)
+    let inv = c.loop-row.invariant in
+    let done = c.lay_row-laid.ensures in
+    (same-rows-then inv.0 done.same_rows, rw (add-one c.loop-row.row) (proceeds_then inv.1 done.proceeds), inv.2)
 
-pub returns : goal.returns
-returns c =
+pub returns-clause-proceeds : goal.returns-clause-proceeds
+returns-clause-proceeds c =
     let end : c.loop-row.row ≡ 16 * c.args.patch.rows = omega (arith, c.loop-row-test.false, c.loop-row.auto.row-end) in
-    rows_done end c.loop-row.invariant.0
+    rows_done end c.loop-row.invariant.1

@@ -1,13 +1,10 @@
 use Rattle.std.proofs.Common.{arith, rules, ◌≤◌}
 use Rattle.tree.proofs.Laws.Trees.{node_in-row}
 use Rattle.tree_query.proofs.Laws.LeafNodes.{leaf-asks, leaf_gives, branch-level, branch-asks, branch_gives}
-use Rattle.tree_query.proofs.Laws.LeafGroups.{ahead-start, ahead-child, ahead-next, ahead_end}
+use Rattle.tree_query.proofs.Laws.LeafGroups.{ahead-child, ahead-next, ahead_end}
 use Rattle.tree_query.proofs.leaves.+leaf_group_leaf_node.Goals as goal
 
 -- ---- a group
-
-pub leaf_group-loop-child-init : goal.leaf_group-loop-child-init
-leaf_group-loop-child-init t c = search (ahead-start, rules)
 
 pub leaf_group-leaf_node-next-requires : goal.leaf_group-leaf_node-next-requires
 leaf_group-leaf_node-next-requires t c = (omega arith, search (ahead-child, rules))

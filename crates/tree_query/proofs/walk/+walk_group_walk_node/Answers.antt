@@ -1,14 +1,11 @@
 use Rattle.std.proofs.Common.{arith, rules, ap, sym, Bool, eqb, ◌||◌, ◌∙◌, ◌≤◌}
 use Rattle.tree.proofs.Laws.Trees.{node_in-row}
 use Rattle.tree_query.proofs.Laws.Nodes.{leaf-asks, leaf_gives, branch-level, branch-asks, branch_gives}
-use Rattle.tree_query.proofs.Laws.Groups.{ahead-start, ahead-child, ahead-next, ahead-skip, ahead_end}
+use Rattle.tree_query.proofs.Laws.Groups.{ahead-child, ahead-next, ahead-skip, ahead_end}
 use Rattle.tree_query.proofs.walk.+walk_group_walk_node.Goals as goal
 use Rattle.tree_query.proofs.walk.+walk_group_walk_node.Goals.{walk_group-then-child-at, walk_group-else-child-at}
 
 -- ---- a group
-
-pub walk_group-loop-child-init : goal.walk_group-loop-child-init
-walk_group-loop-child-init t c = search (ahead-start, rules)
 
 pub walk_group-walk_node-met-requires : goal.walk_group-walk_node-met-requires
 walk_group-walk_node-met-requires t c = (omega arith, search (ahead-child, rules))

@@ -14,4 +14,4 @@ decreases-walk_node l = 2 * l.levels
 
 abbrev pub invariant-walk_group-loop-child : goal.invariant-walk_group-loop-child
 invariant-walk_group-loop-child l =
-    Ahead l.query l.cell l.quadrants l.nodes l.dots l.rects l.initial.row l.initial.met l.first l.levels l.row l.met l.child
+    Ahead l.query l.cell l.quadrants l.rows.nodes.now l.rows.dots.now l.rows.rects.now l.initial.row l.initial.met l.first l.levels l.row l.met l.child

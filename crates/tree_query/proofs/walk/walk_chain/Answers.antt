@@ -1,6 +1,6 @@
 use Rattle.std.proofs.Common.{refl, ◌∙◌}
 use Rattle.memory.proofs.Laws.Chains.{passed}
-use Rattle.tree_query.proofs.Laws.Chains.{has-chain, rest-start, rest-turn, rest-place, rest-room, rest_end}
+use Rattle.tree_query.proofs.Laws.Chains.{has-chain, rest-start, rest-turn, rest-place, rest_end}
 use Rattle.tree_query.proofs.walk.walk_chain.Goals as goal
 
 pub loop-place-init : goal.loop-place-init
@@ -11,9 +11,6 @@ loop-place-init c =
 
 pub dot_at-requires : goal.dot_at-requires
 dot_at-requires c = rest-place _ _ _ c.loop-place.invariant.3 (passed c.loop-place.invariant.2 c.in-Some.ensures.steps.1) c.requires
-
-pub list_dot-hits-requires : goal.list_dot-hits-requires
-list_dot-hits-requires c = rest-room _ _ _ c.loop-place.invariant.3 (passed c.loop-place.invariant.2 c.in-Some.ensures.steps.1)
 
 pub loop-place-preserved : goal.loop-place-preserved
 loop-place-preserved c =

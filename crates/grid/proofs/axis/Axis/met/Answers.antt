@@ -5,4 +5,5 @@ use Rattle.grid.proofs.axis.Axis.met.Goals as goal
 
 pub returns : goal.returns
 unfolding span_met
-returns c = search (rules, c.first_met.ensures, c.past_met.ensures, c.at_most-from.ensures, c.at_most-to.ensures, c.natural-size.ensures, c.count-number.ensures)
+returns c =
+    search (rules, c.first_met.ensures, c.past_met.ensures, c.at_most-from.ensures, c.at_most-to.ensures, c.natural-size.ensures, c.count-number.ensures)
