@@ -16,18 +16,18 @@ use model::{Record, State};
 // The records of a lent row.
 #[derive(Clone, Copy)]
 pub struct LentRecords<'a> {
-    pub rows: &'a [Record],
+    pub records: &'a [Record],
 }
 
 impl<'a> Records for LentRecords<'a> {
-    ghost list = { λ lent. lent.rows.now };
+    ghost list = { λ lent. lent.records.now };
 
     fn count(&self) -> usize {
-        self.rows.len()
+        self.records.len()
     }
 
     fn at(&self, i: usize) -> Record {
-        self.rows[i]
+        self.records[i]
     }
 }
 

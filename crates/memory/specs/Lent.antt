@@ -1,4 +1,4 @@
--- The rows of a tree, lent as one value.
+-- The rows of a tree, lent as one value. A clause says `held rows` of rows that are asked for, and `held rows.entry` where it says what is left.
 --     Held, holding        what they hold
 --     held, held_mut       .. lent for reading; .. lent for changes
 --     SameRows     the same loans, whatever they hold

@@ -1,5 +1,5 @@
 // The rows of a tree, lent as one value. What touches only some of them takes those, and its contract need not speak of the others.
-// The state is none of them: each change answers it anew. Nor are the marks, which the check alone writes, also where the rows are lent for reading.
+// The state is none of them: each change answers it anew. Nor are the marks, which make clears and the check writes, also where rows are lent for reading.
 ghost use Rattle.std.specs.Prelude.{◌≡◌};
 
 // Lent for reading.

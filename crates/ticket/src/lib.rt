@@ -24,7 +24,7 @@ impl<'a> Workspace<'a> {
     }
 }
 
-// The state of the fresh tree, or the end; and where the answer's bytes end. No Option: the end is a phase of the program.
+// The state that the program goes on with, or the end; and where the answer's bytes end. No Option: the end is a phase of the program.
 #[derive(Clone, Copy)]
 pub enum Start {
     Going(State, usize),

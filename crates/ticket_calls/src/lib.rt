@@ -27,7 +27,7 @@ pub fn answer_nine(state: State, out: &mut [u8]) -> Step
     Step { state, next }
 }
 
-// A cleanup, of rows that are lent for changes.
+// A cleanup, of rows that are lent for changes. Two of them are lent on one by one, to be read while the third is changed.
 fn clean_up(state: State, rows: &mut RowsMut<'_>, marks: &mut [u8], out: &mut [u8]) -> Step
     requires { 24 ≤ length out.old }
     ensures same_rows { SameRows rows.old rows.new }

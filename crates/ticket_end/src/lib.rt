@@ -2,8 +2,7 @@
 #![tactic(auto)]
 
 ghost use Rattle.std.specs.Prelude.{◌≡◌, ◌≤◌, length, take};
-ghost use Rattle.ticket.specs.Room.{Room};
-ghost use Rattle.ticket.specs.Workspace.{lent_in, SameWorkspace};
+ghost use Rattle.ticket.specs.Workspace.{lent_in, HasRoom, SameWorkspace};
 ghost use Rattle.ticket_end.specs.End.{is_left, end_phase, Finished};
 
 use std::io::Write;
@@ -43,7 +42,7 @@ pub fn finish<W: Write>(
     line: &[u8],
     output: &mut Stream<W>,
 ) -> Phase
-    requires room { Room program (length workspace.old.row.now) (length workspace.old.out.now) }
+    requires room { HasRoom program workspace.old }
     requires kept_in_bounds { progress.kept ≤ length line.now }
     ensures same_rows { SameWorkspace workspace.old workspace.new }
     ensures finished { Finished program progress.phase (take progress.kept line.now)

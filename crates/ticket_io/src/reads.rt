@@ -1,7 +1,6 @@
 // One read: the lines that end in its bytes are answered.
 ghost use Rattle.std.specs.Prelude.{IfSome, ◌≤◌, length, take};
-ghost use Rattle.ticket.specs.Room.{Room};
-ghost use Rattle.ticket.specs.Workspace.{lent_in, SameWorkspace};
+ghost use Rattle.ticket.specs.Workspace.{lent_in, HasRoom, SameWorkspace};
 ghost use Rattle.ticket_io.specs.Reading.{Chunked, ReadAnswered, ReadOn};
 
 use line_reader::{Found, next_line};
@@ -21,7 +20,7 @@ fn chunk<W: Write>(
     line: &mut [u8],
     output: &mut Stream<W>,
 ) -> Progress
-    requires room { Room program (length workspace.old.row.now) (length workspace.old.out.now) }
+    requires room { HasRoom program workspace.old }
     requires kept_in_bounds { progress.kept ≤ length line.old }
     ensures same_rows { SameWorkspace workspace.old workspace.new }
     ensures chunked { Chunked program progress.phase (take progress.kept line.old) bytes.now (length line.old)
@@ -56,7 +55,7 @@ fn answer_read<W: Write>(
     buffer: &[u8],
     output: &mut Stream<W>,
 ) -> Progress
-    requires room { Room program (length workspace.old.row.now) (length workspace.old.out.now) }
+    requires room { HasRoom program workspace.old }
     requires kept_in_bounds { (progress.kept ≤ length line.old) × IfSome got (λ count. count ≤ length buffer.now) }
     ensures same_rows { SameWorkspace workspace.old workspace.new }
     ensures kept_after { result.kept ≤ length line.new }
@@ -89,7 +88,7 @@ pub fn read_on<R: Read, W: Write>(
     input: &mut Stream<R>,
     output: &mut Stream<W>,
 ) -> Progress
-    requires room { Room program (length workspace.old.row.now) (length workspace.old.out.now) }
+    requires room { HasRoom program workspace.old }
     requires kept_in_bounds { progress.kept ≤ length line.old }
     ensures same_rows { SameWorkspace workspace.old workspace.new }
     ensures kept_after { result.kept ≤ length line.new }

@@ -1,8 +1,7 @@
 // A ticket from standard input to standard output: one read after another, to the input's end.
 ghost use Rattle.std.specs.Prelude.{◌≡◌, ◌≤◌, length};
-ghost use Rattle.ticket.specs.Room.{Room};
 ghost use Rattle.ticket.specs.Turns.{is_over};
-ghost use Rattle.ticket.specs.Workspace.{lent_in, SameWorkspace};
+ghost use Rattle.ticket.specs.Workspace.{lent_in, HasRoom, SameWorkspace};
 ghost use Rattle.ticket_io.specs.Reading.{AllAnswered};
 
 use crate::reads::read_on;
@@ -28,7 +27,7 @@ fn run<R: Read, W: Write>(
     input: &mut Stream<R>,
     output: &mut Stream<W>,
 ) -> Phase
-    requires { Room program (length workspace.old.row.now) (length workspace.old.out.now) × (length line.old ≡ 81) }
+    requires { HasRoom program workspace.old × (length line.old ≡ 81) }
     ensures same_rows { SameWorkspace workspace.old workspace.new }
     ensures all_answered { result ≡ Phase.Ended → AllAnswered program (lent_in workspace.old) (lent_in workspace.new) }
 {
@@ -72,7 +71,7 @@ pub fn answer_ticket<R: Read, W: Write, E: Eprint>(
     output: &mut Stream<W>,
     errors: &E,
 ) -> u32
-    requires { Room program (length workspace.old.row.now) (length workspace.old.out.now) × (length line.old ≡ 81) }
+    requires { HasRoom program workspace.old × (length line.old ≡ 81) }
     ensures same_rows { SameWorkspace workspace.old workspace.new }
     ensures upper_bound { result ≤ 1 }
     ensures all_answered { result ≡ 0 → AllAnswered program (lent_in workspace.old) (lent_in workspace.new) }

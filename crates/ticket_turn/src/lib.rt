@@ -3,9 +3,8 @@
 
 ghost use Rattle.std.specs.Prelude.{◌≤◌, length};
 ghost use Rattle.ticket.specs.First.{end_of};
-ghost use Rattle.ticket.specs.Room.{Room};
 ghost use Rattle.ticket.specs.Turns.{phase_of, GoesTo, Turn};
-ghost use Rattle.ticket.specs.Workspace.{lent_in, SameWorkspace};
+ghost use Rattle.ticket.specs.Workspace.{lent_in, HasRoom, SameWorkspace};
 
 use model::State;
 use std::io::Write;
@@ -54,7 +53,7 @@ fn answer<W: Write>(
     line: &[u8],
     output: &mut Stream<W>,
 ) -> Phase
-    requires { Room program (length workspace.old.row.now) (length workspace.old.out.now) }
+    requires { HasRoom program workspace.old }
     ensures same_rows { SameWorkspace workspace.old workspace.new }
     ensures turn { Turn program (Phase.Going state)
         (lent_in workspace.old) line.now result (lent_in workspace.new) }
@@ -79,7 +78,7 @@ pub fn turn<W: Write>(
     line: &[u8],
     output: &mut Stream<W>,
 ) -> Phase
-    requires { Room program (length workspace.old.row.now) (length workspace.old.out.now) }
+    requires { HasRoom program workspace.old }
     ensures same_rows { SameWorkspace workspace.old workspace.new }
     ensures turn { Turn program phase
         (lent_in workspace.old) line.now result (lent_in workspace.new) }
