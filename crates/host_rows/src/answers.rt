@@ -1,6 +1,6 @@
 // What an exported call writes and returns, for each answer. A refusal leaves the rows as they were.
 ghost use Rattle.std.specs.Prelude.{◌≡◌, List, ℕ, length};
-ghost use Rattle.model.specs.Refusals.{reply, refusal_reply};
+ghost use Rattle.model.specs.Refusals.{reply};
 ghost use Rattle.model.specs.Answers.{make_reply, change_reply, change_state, yes_no_reply, yes_no_state, ask_reply};
 ghost use Rattle.host_rows.specs.Rows.{CountFits, state_in};
 ghost use Rattle.host_rows.specs.Tickets.{ticket_row};
@@ -101,16 +101,14 @@ pub fn change_out(state: &mut [u32], answer: &mut [u32], done: Result<Changed, R
     ensures { (state.new ≡ state_row (change_state (state_in state.old) done) state.old (change_reply done))
         × Out number (change_reply done) answer.old answer.new result }
 {
-    match done {
-        Err(refusal) => refused(refusal),
-        Ok(changed) => {
-            state_out(state, changed.state);
-            answer_out(answer, Ok(changed.number))
-        }
+    if let Ok(changed) = done {
+        state_out(state, changed.state);
     }
+    answer_out(answer, done.map(|changed| changed.number))
 }
 
 // Of a remove and of a cleanup: yes or no.
+#[tactic(auto, using(crate::proofs::Laws::Rows::keeps_state))]
 pub fn yes_no_out(
     state: &mut [u32],
     answer: &mut [u32],
@@ -120,14 +118,10 @@ pub fn yes_no_out(
     ensures { (state.new ≡ state_row (yes_no_state (state_in state.old) done) state.old (yes_no_reply done))
         × Out yes_or_no (yes_no_reply done) answer.old answer.new result }
 {
-    match done {
-        Err(refusal) => refused(refusal),
-        Ok(Some(after)) => {
-            state_out(state, after);
-            answer_out(answer, Ok(true))
-        }
-        Ok(None) => answer_out(answer, Ok(false)),
+    if let Ok(Some(after)) = done {
+        state_out(state, after);
     }
+    answer_out(answer, done.map(|after| after.is_some()))
 }
 
 // Of an ask: the splits; and its ticket in a row of its own.
@@ -136,11 +130,8 @@ pub fn ask_out(ticket: &mut [u32], answer: &mut [u32], done: Result<Asked, Refus
     ensures { (ticket.new ≡ ticket_row (ask_reply done) ticket.old)
         × Out splits_told (ask_reply done) answer.old answer.new result }
 {
-    match done {
-        Err(refusal) => refused(refusal),
-        Ok(asked) => {
-            ticket_out(ticket, asked.ticket);
-            answer_out(answer, Ok(asked.splits))
-        }
+    if let Ok(asked) = done {
+        ticket_out(ticket, asked.ticket);
     }
+    answer_out(answer, done.map(|asked| asked.splits))
 }

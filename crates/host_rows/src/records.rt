@@ -19,6 +19,7 @@ pub fn record_in(records: &[u32], i: usize) -> Record
 }
 
 // Whether the state row has its length, and the records' row seven words for each.
+#[tactic(auto, unfolding(crate::specs::Records::batch_fits))]
 pub fn batch_fits(state: &[u32], records: &[u32]) -> bool
     ensures { result ≡ batch_fits state.now records.now }
 {

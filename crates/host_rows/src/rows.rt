@@ -1,5 +1,5 @@
 // A state as a row of twelve words, an answer as a row of two; a dot and a wide number in a row.
-ghost use Rattle.std.specs.Prelude.{◌≡◌, [], ◌∷◌, ◌+◌, ◌*◌, ◌<◌, length};
+ghost use Rattle.std.specs.Prelude.{◌≡◌, ◌+◌, ◌<◌, length};
 ghost use Rattle.host_rows.specs.Rows.{settings_in, dot_in, wide_in, with_wide, CountFits, state_in, rows_fit, with_state};
 
 use geometry::aabb::AABB;
@@ -78,6 +78,7 @@ pub fn state_in(state: &[u32]) -> State
 }
 
 // Whether both rows have their lengths.
+#[tactic(auto, unfolding(crate::specs::Rows::rows_fit))]
 pub fn rows_fit(state: &[u32], answer: &[u32]) -> bool
     ensures { result ≡ rows_fit state.now answer.now }
 {

@@ -43,6 +43,7 @@ pub fn ticket_out(row: &mut [u32], ticket: Ticket)
 }
 
 // Whether the three rows have their lengths.
+#[tactic(auto, unfolding(crate::specs::Tickets::ticket_fits))]
 pub fn ticket_fits(state: &[u32], answer: &[u32], ticket: &[u32]) -> bool
     ensures { result ≡ ticket_fits state.now answer.now ticket.now }
 {

@@ -160,7 +160,7 @@ pub extern "C" fn krakvinge_check(
     let before = state_in(state);
     match check(before, Rows { nodes, dots, rects }, marks) {
         Ok(()) => 0,
-        Err(refusal) => u64::from(refusal.number()),
+        Err(refusal) => refused(refusal),
     }
 }
 

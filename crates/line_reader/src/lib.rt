@@ -4,12 +4,11 @@
 ghost use Rattle.std.specs.Prelude.{◌≤◌, length};
 ghost use Rattle.line_reader.specs.Steps.{Kept, Finds};
 
-// A whole line at the row's front and the place after its LF, or all bytes are taken; and how many bytes the line, or the part kept, has.
-// No Option: both ways tell how many bytes stand in the row.
-#[derive(Clone, Copy)]
-pub enum Found {
-    Line(usize, usize),
-    More(usize),
+// How many bytes stand at the row's front. If they are a whole line, the place after its LF too; else all bytes are taken.
+#[derive(Clone, Copy, Debug, PartialEq, Eq)]
+pub struct Found {
+    pub count: usize,
+    pub next: Option<usize>,
 }
 
 // More bytes of a line, as many as the row has room for.
@@ -30,7 +29,13 @@ pub fn next_line(line: &mut [u8], kept: usize, bytes: &[u8], at: usize) -> Found
 {
     let rest = &bytes[at..];
     match rest.iter().position(|b| *b == b'\n') {
-        Some(end) => Found::Line(keep(line, kept, &rest[..end]), at + end + 1),
-        None => Found::More(keep(line, kept, rest)),
+        Some(end) => Found {
+            count: keep(line, kept, &rest[..end]),
+            next: Some(at + end + 1),
+        },
+        None => Found {
+            count: keep(line, kept, rest),
+            next: None,
+        },
     }
 }

@@ -1,9 +1,11 @@
 // The lines of the answers: a letter, numbers, an LF.
 ghost use Rattle.std.specs.Prelude.{◌≡◌, ◌∷◌, [], ◌+◌, ◌*◌, ◌≤◌, length, take};
+ghost use Rattle.model.specs.Refusals.{number_of};
 ghost use Rattle.lines.specs.Text.{answer};
 ghost use Rattle.lines.specs.Reading.{output, Written};
 
 use crate::row::{put_byte, put_field, put_fields};
+use model::refusal::Refusal;
 
 // A letter, and each number with its comma.
 fn answer_numbers(out: &mut [u8], letter: u8, numbers: &[u32]) -> usize
@@ -21,6 +23,14 @@ pub fn answer_one(out: &mut [u8], letter: u8, a: u32) -> usize
     ensures { Written (output out.old out.new result) (answer letter (a ∷ [])) }
 {
     answer_numbers(out, letter, &[a])
+}
+
+// The line of a refusal.
+pub fn answer_refusal(out: &mut [u8], refusal: Refusal) -> usize
+    requires { 13 ≤ length out.old }
+    ensures { Written (output out.old out.new result) (answer 69 (number_of refusal ∷ [])) }
+{
+    answer_one(out, b'E', refusal.number())
 }
 
 // A line of two numbers.

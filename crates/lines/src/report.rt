@@ -16,14 +16,14 @@ fn put_window(out: &mut [u8], at: usize, column: u32, row: u32, count: u32) -> u
     put_byte(out, end, b'\n')
 }
 
-// The lines of a row, whose counts stand from `first` on.
-fn put_row(out: &mut [u8], at: usize, columns: u32, row: u32, counts: &[u32], first: usize) -> usize
-    requires { (columns ≤ 64) × (row < 64) × (first + columns ≤ length counts.now) × (at + 17 * columns ≤ length out.old) }
-    ensures { Put out.old at (window_row columns row counts.now first) out.new result }
+// The lines of a row, from its counts.
+fn put_row(out: &mut [u8], at: usize, row: u32, counts: &[u32]) -> usize
+    requires { (length counts.now ≤ 64) × (row < 64) × (at + 17 * length counts.now ≤ length out.old) }
+    ensures { Put out.old at (window_row (length counts.now) row counts.now 0) out.new result }
 {
     let mut next = at;
-    for column in 0..columns {
-        next = put_window(out, next, column, row, counts[first + column as usize]);
+    for (column, count) in counts.iter().enumerate() {
+        next = put_window(out, next, column as u32, row, *count);
     }
     next
 }
@@ -35,8 +35,9 @@ fn put_rows(out: &mut [u8], columns: u32, rows: u32, counts: &[u32]) -> usize
 {
     let mut next = 0;
     for row in 0..rows {
-        let first = row * columns;
-        next = put_row(out, next, columns, row, counts, first as usize);
+        let first = (row * columns) as usize;
+        let past = first + columns as usize;
+        next = put_row(out, next, row, &counts[first..past]);
     }
     next
 }

@@ -1,11 +1,12 @@
 -- The rows of a tree, lent as one value. A clause says `held rows` of rows that are asked for, and `held rows.entry` where it says what is left.
 --     Held, holding        what they hold
 --     held, held_mut       .. lent for reading; .. lent for changes
+--     places_held, groups_held     N and G, read off the lengths
 --     SameRows     the same loans, whatever they hold
 --     mem_of, world_of     the words read node by node and place by place; all that a call is given
-use Rattle.std.specs.Prelude.{◌≡◌, List, ℕ, ℤ}
+use Rattle.std.specs.Prelude.{◌≡◌, List, ℕ, ℤ, length}
 use Rattle.model.specs.declared.State.{State}
-use Rattle.model.specs.Layout.{World, world}
+use Rattle.model.specs.Layout.{World, world, groups_in, places_in}
 use Rattle.model.specs.Memory.{Mem, read}
 use Rattle.memory.specs.declared.rows.Rows.{Rows}
 use Rattle.memory.specs.declared.rows.RowsMut.{RowsMut}
@@ -23,6 +24,12 @@ held r = holding r.nodes.now r.dots.now r.rects.now
 
 abbrev pub held_mut : RowsMut → Held
 held_mut r = holding r.nodes.now r.dots.now r.rects.now
+
+unfoldable pub places_held : Held → ℕ
+places_held h = places_in (length h.dots)
+
+unfoldable pub groups_held : Held → ℕ
+groups_held h = groups_in (length h.nodes)
 
 -- A value that holds `&mut`s could be given others: each function that takes it says that it has the ones it had.
 pub record SameRows (r r' : RowsMut) : Type 0 where

@@ -15,6 +15,7 @@ pub struct Patch {
 
 impl Patch {
     // Whether refusal 13 lets it pass (§20.5): 1 to 64 tiles each way, and a tint of at most 256.
+    #[tactic(auto, unfolding(crate::specs::Patch::patch_fits))]
     pub fn in_range(self) -> bool
         ensures { result ≡ patch_fits self }
     {

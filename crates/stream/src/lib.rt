@@ -2,7 +2,7 @@
 // Nothing says that the signals end, so a loop ends after a number of turns that no run uses up.
 #![tactic(auto)]
 
-ghost use Rattle.std.specs.Prelude.{◌≡◌, true, false, IsSome, IfSome, IfNone, OnSome, Some, None, ◌<◌, ◌≤◌, length, take};
+ghost use Rattle.std.specs.Prelude.{◌≡◌, IsSome, IfSome, IfNone, OnSome, Some, None, ◌<◌, ◌≤◌, length, take};
 ghost use Rattle.std.specs.Io.KnownBytes.{Appends, Consumes, IsAtEnd, Keeps};
 
 use std::io::{Error, ErrorKind, Read, Write};
@@ -51,27 +51,27 @@ pub fn read_some<R: Read>(input: &mut Stream<R>, buffer: &mut [u8]) -> Option<us
     None
 }
 
-// Writes all the bytes, however many a write takes; false after a write that failed.
-pub fn write_bytes<W: Write>(output: &mut Stream<W>, bytes: &[u8]) -> bool
-    ensures bytes { result ≡ true → Appends (W.contents output.old.inner) (W.contents output.new.inner) bytes.now }
-    ensures told { result ≡ false → IsSome output.new.failure }
-    ensures kept { result ≡ true → output.new.failure ≡ output.old.failure }
+// Writes all the bytes, however many a write takes; `None` after a write that failed.
+pub fn write_bytes<W: Write>(output: &mut Stream<W>, bytes: &[u8]) -> Option<()>
+    ensures bytes { OnSome result (Appends (W.contents output.old.inner) (W.contents output.new.inner) bytes.now) }
+    ensures told { IfNone result (IsSome output.new.failure) }
+    ensures kept { OnSome result (output.new.failure ≡ output.old.failure) }
 {
     let mut done = 0;
     for _ in 0..u64::MAX {
         if done == bytes.len() {
-            return true;
+            return Some(());
         }
         match output.inner.write(&bytes[done..]) {
             Ok(put) => done += put,
             Err(error) => {
                 if error.kind() != ErrorKind::Interrupted {
                     output.failure = Some(error);
-                    return false;
+                    return None;
                 }
             }
         }
     }
     output.failure = Some(Error::from(ErrorKind::Interrupted));
-    false
+    None
 }

@@ -32,8 +32,10 @@ fn threshold(column: u32, row: u32) -> u32
 }
 
 fn main(rt: HostRuntime) -> io::Result<()> {
-    println!(rt; "// The thresholds of a tile, row by row.")?;
-    println!(rt; "pub const THRESHOLDS: [u8; 256] = [")?;
+    println!(rt;
+        "// The thresholds of a tile, row by row. A static: a read of an element copies no other."
+    )?;
+    println!(rt; "pub static THRESHOLDS: [u8; 256] = [")?;
     for place in 0u32..256 {
         println!(rt; "    {},", threshold(place % 16, place / 16))?;
     }

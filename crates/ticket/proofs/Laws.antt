@@ -1,9 +1,8 @@
 -- Laws of the ticket's answers.
 --     Replies      a call's answer, case by case, and the line that was written for it
---     Lines        what a line says, case by case, and the answer to that
+--     Lines        what a call says that its line does not
 --     Report       a later line of gridreport, case by case; the lines of its report
 --     Fixed        the statements fix every word and every byte
---     Room         what the room for an answer is enough for
 --     Workspace    a workspace of the same loans
 --     Turns        a turn, case by case, and lines one after another
 --     TurnsFixed   what a turn leaves open
@@ -11,7 +10,6 @@ pub mod Replies
 pub mod Lines
 pub mod Report
 pub mod Fixed
-pub mod Room
 pub mod Turns
 pub mod TurnsFixed
 pub mod Workspace

@@ -1,4 +1,5 @@
 -- The answer to the first line (§13.5).
+--     Start, going, ended          what a line leads to that may be the last
 --     MakeLine     make, and the line of its reply
 --     Started      the first line: an `S`; or another line or none, and the end
 use Rattle.std.specs.Prelude.{◌≡◌, List, [], ◌∷◌, ℕ, Option, Some, None}
@@ -12,24 +13,31 @@ use Rattle.lines.specs.Reading.{Output, Written}
 use Rattle.lines.specs.Lines.{LineOf}
 use Rattle.lines.specs.declared.line.Call.TheVariants as call
 use Rattle.lines.specs.declared.line.Call.{Call}
-use Rattle.ticket.specs.declared.Start.{Start}
-use Rattle.ticket.specs.declared.Start.TheVariants as start
+use Rattle.ticket.specs.declared.Step.{Step}
 use Rattle.ticket.specs.Ticket.{refusal_line, reply_line}
 
--- where the answer's bytes end
-abbrev pub end_of : Start → ℕ
-end_of (start.Going s n) = n
-end_of (start.Ended n) = n
+-- the state that the program goes on with, or none at the end; and where the answer's bytes end
+abbrev pub Start : Type 0
+Start = Step (Option State)
+
+abbrev pub going : State → ℕ → Start
+going s n = record { state = Some s; next = n }
+
+abbrev pub ended : ℕ → Start
+ended n = record { state = None; next = n }
+
+abbrev pub state_after : State → Option State → State
+state_after before (Some s) = s
+state_after before None = before
 
 abbrev pub after_start : State → Start → State
-after_start before (start.Going s n) = s
-after_start before (start.Ended n) = before
+after_start before r = state_after before r.state
 
 -- the program goes on, with make's state, exactly if make was accepted
 abbrev pub start_of : Reply (Unit {0}) → State → ℕ → Start
-start_of (refused k) s n = start.Ended n
-start_of (too_many k) s n = start.Ended n
-start_of (answered a) s n = start.Going s n
+start_of (refused k) s n = ended n
+start_of (too_many k) s n = ended n
+start_of (answered a) s n = going s n
 
 -- §13.5: `S,` and D; with settings out of range `E,2`, and the end
 pub record MakeLine (w : World) (s : Settings) (r : Start) (w' : World) (out : Output) : Type 0 where
@@ -40,7 +48,7 @@ pub record MakeLine (w : World) (s : Settings) (r : Start) (w' : World) (out : O
 
 -- §13.5: any other first line, or none, is `E,9`, and the end
 pub record NoStart (w : World) (r : Start) (w' : World) (out : Output) : Type 0 where
-  pub ends : r ≡ start.Ended out.next
+  pub ends : r ≡ ended out.next
   pub kept : w' ≡ w
   pub line : Written out (refusal_line 9)
 

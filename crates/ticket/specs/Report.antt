@@ -12,8 +12,7 @@ use Rattle.model.specs.Calls.{Reply, GridReport}
 use Rattle.lines.specs.Report.{window_line, total_line, report}
 use Rattle.lines.specs.Reading.{Output, Written}
 use Rattle.lines.specs.Grids.{GridLineOf}
-use Rattle.ticket.specs.declared.Start.{Start}
-use Rattle.ticket.specs.declared.Start.TheVariants as start
+use Rattle.ticket.specs.First.{Start, going, ended}
 use Rattle.ticket.specs.Ticket.{reply_line, Answered}
 
 -- §19.6: a line for each window, in their order, then the total's
@@ -30,8 +29,8 @@ pub record GridAnswered (w : World) (g : Grid) (row : List ℕ) (w' : World) (ro
   pub line : Written out (reply_line (report (columns_of g) (rows_of g) row') reply)
 
 abbrev pub TurnAnswer : World → List ℕ → List ℕ → Option Grid → Start → World → List ℕ → Output → Type 0
-TurnAnswer w row input (Some g) r w' row' out = (r ≡ start.Ended out.next) × GridAnswered w g row w' row' out
-TurnAnswer w row input None r w' row' out = (r ≡ start.Going w'.state out.next) × Answered w row input w' row' out
+TurnAnswer w row input (Some g) r w' row' out = (r ≡ ended out.next) × GridAnswered w g row w' row' out
+TurnAnswer w row input None r w' row' out = (r ≡ going w'.state out.next) × Answered w row input w' row' out
 
 pub record Turned (w : World) (row input : List ℕ) (r : Start) (w' : World) (row' : List ℕ) (out : Output) : Type 0 where
   pub says : Option Grid

@@ -5,13 +5,11 @@
 --     FirstTurn, LaterTurn the first line, and one after it
 --     TurnIn, Turn THE STATEMENT for a line, by the phase
 --     Turns        for lines one after another
-use Rattle.std.specs.Prelude.{◌≡◌, Bool, true, false, List, [], ◌∷◌, ℕ, ℤ}
+use Rattle.std.specs.Prelude.{◌≡◌, Bool, true, false, List, [], ◌∷◌, ℕ, ℤ, Option, Some, None}
 use Rattle.model.specs.declared.State.{State}
 use Rattle.model.specs.Layout.{World, world}
 use Rattle.lines.specs.Reading.{Output, output}
-use Rattle.ticket.specs.declared.Start.{Start}
-use Rattle.ticket.specs.declared.Start.TheVariants as start
-use Rattle.ticket.specs.First.{end_of, after_start, Started}
+use Rattle.ticket.specs.First.{Start, going, after_start, Started}
 use Rattle.ticket.specs.Ticket.{Answered}
 use Rattle.ticket.specs.Report.{Turned}
 use Rattle.ticket.specs.declared.Program.{Program}
@@ -43,9 +41,9 @@ world_of s l = world s l.nodes l.dots l.rects l.marks
 abbrev pub output_of : Lent → Lent → ℕ → Output
 output_of l l' next = output l.out l'.out next
 
-abbrev pub phase_of : Start → Phase
-phase_of (start.Going s n) = phase.Going s
-phase_of (start.Ended n) = phase.Ended
+abbrev pub phase_of : Option State → Phase
+phase_of (Some s) = phase.Going s
+phase_of None = phase.Ended
 
 -- an answer leads on, or all answers break off, as where it could not be written: which of the two, no contract can say, since none says what is written
 pub data GoesTo (wanted : Phase) : Phase → Type 0 where
@@ -55,22 +53,22 @@ pub data GoesTo (wanted : Phase) : Phase → Type 0 where
 -- §13.5: there is no state before the first line, so any will do
 pub record FirstTurn (l : Lent) (line : List ℕ) (q : Phase) (l' : Lent) : Type 0 where
   pub says : Start
-  pub answer : (before : State) → Started (world_of before l) line says (world_of (after_start before says) l') (output_of l l' (end_of says))
+  pub answer : (before : State) → Started (world_of before l) line says (world_of (after_start before says) l') (output_of l l' says.next)
   pub row : l'.row ≡ l.row
-  pub goes : GoesTo (phase_of says) q
+  pub goes : GoesTo (phase_of says.state) q
 
 -- §13.6, §19.5: by the program; dotcheck goes on after each
 abbrev pub LaterAnswer : Program → State → Lent → List ℕ → Start → Lent → Type 0
 LaterAnswer program.Dotcheck s l line says l' =
-    (says ≡ start.Going (after_start s says) (end_of says))
-    × Answered (world_of s l) l.row line (world_of (after_start s says) l') l'.row (output_of l l' (end_of says))
+    (says ≡ going (after_start s says) says.next)
+    × Answered (world_of s l) l.row line (world_of (after_start s says) l') l'.row (output_of l l' says.next)
 LaterAnswer program.Gridreport s l line says l' =
-    Turned (world_of s l) l.row line says (world_of (after_start s says) l') l'.row (output_of l l' (end_of says))
+    Turned (world_of s l) l.row line says (world_of (after_start s says) l') l'.row (output_of l l' says.next)
 
 pub record LaterTurn (p : Program) (s : State) (l : Lent) (line : List ℕ) (q : Phase) (l' : Lent) : Type 0 where
   pub says : Start
   pub answer : LaterAnswer p s l line says l'
-  pub goes : GoesTo (phase_of says) q
+  pub goes : GoesTo (phase_of says.state) q
 
 -- after the end, and after an answer that could not be written, nothing is changed
 abbrev pub TurnIn : Program → Phase → Lent → List ℕ → Phase → Lent → Type 0

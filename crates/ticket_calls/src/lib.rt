@@ -9,26 +9,27 @@ ghost use Rattle.ticket.specs.Turns as turns;
 ghost use Rattle.ticket.specs.Turns.{output_of};
 ghost use Rattle.ticket.specs.Workspace.{lent_in, SameWorkspace};
 
-use lines::answer::answer_one;
+use lines::answer::answer_refusal;
 use lines::line::Call;
 use memory::rows::RowsMut;
+use model::refusal::Refusal;
 use model::{Dot, State, Window};
 use ticket::{Step, Workspace};
 use ticket_changes::{answer_cleanup, answer_insert, answer_remove};
 use ticket_queries::answer_listing;
 
 // An unreadable line, or a later S.
-pub fn answer_nine(state: State, out: &mut [u8]) -> Step
+pub fn answer_nine(state: State, out: &mut [u8]) -> Step<State>
     requires { 24 ≤ length out.old }
     ensures next_in_bounds { result.next ≤ length out.new }
     ensures unreadable { (result.state ≡ state) × Written (output out.old out.new result.next) (refusal_line 9) }
 {
-    let next = answer_one(out, b'E', 9);
+    let next = answer_refusal(out, Refusal::UnknownKind);
     Step { state, next }
 }
 
 // A cleanup, of rows that are lent for changes. Two of them are lent on one by one, to be read while the third is changed.
-fn clean_up(state: State, rows: &mut RowsMut<'_>, marks: &mut [u8], out: &mut [u8]) -> Step
+fn clean_up(state: State, rows: &mut RowsMut<'_>, marks: &mut [u8], out: &mut [u8]) -> Step<State>
     requires { 24 ≤ length out.old }
     ensures same_rows { SameRows rows.old rows.new }
     ensures next_in_bounds { result.next ≤ length out.new }
@@ -40,36 +41,34 @@ fn clean_up(state: State, rows: &mut RowsMut<'_>, marks: &mut [u8], out: &mut [u
     answer_cleanup(state, rows.nodes, dots, rects, marks, out)
 }
 
-// A query, of the same.
-fn list(
-    state: State,
-    rows: &mut RowsMut<'_>,
-    marks: &mut [u8],
-    window: Window,
-    row: &mut [u32],
-    out: &mut [u8],
-) -> Step
-    requires { 24 + 11 * length row.old ≤ length out.old }
-    ensures same_rows { SameRows rows.old rows.new }
-    ensures next_in_bounds { result.next ≤ length out.new }
-    ensures query_line { QueryLine (world_of state (held_mut rows.old) marks.old) window row.old
-        (world_of result.state (held_mut rows.new) marks.new) row.new (output out.old out.new result.next) }
+// A query, of rows that are lent for changes.
+fn list(state: State, workspace: &mut Workspace, window: Window) -> Step<State>
+    ensures same_rows { SameWorkspace workspace.old workspace.new }
+    ensures next_in_bounds { result.next ≤ length workspace.new.out.now }
+    ensures query_line { QueryLine (turns.world_of state (lent_in workspace.old)) window workspace.old.row.now
+        (turns.world_of result.state (lent_in workspace.new)) workspace.new.row.now
+        (output_of (lent_in workspace.old) (lent_in workspace.new) result.next) }
 {
-    answer_listing(state, rows.shared(), marks, window, row, out)
+    answer_listing(
+        state,
+        workspace.rows.shared(),
+        workspace.marks,
+        window,
+        workspace.row,
+        workspace.out,
+    )
 }
 
 // The call that a line is: an insert without an ink has ink 0, and a query asks for all inks.
-pub fn answer_call(state: State, workspace: &mut Workspace<'_>, call: Call) -> Step
-    requires { 24 + 11 * length workspace.old.row.now ≤ length workspace.old.out.now }
+pub fn answer_call(state: State, workspace: &mut Workspace, call: Call) -> Step<State>
     ensures same_rows { SameWorkspace workspace.old workspace.new }
     ensures next_in_bounds { result.next ≤ length workspace.new.out.now }
     ensures called { Called (turns.world_of state (lent_in workspace.old)) workspace.old.row.now call
         (turns.world_of result.state (lent_in workspace.new)) workspace.new.row.now
         (output_of (lent_in workspace.old) (lent_in workspace.new) result.next) }
 {
-    let rows = &mut workspace.rows;
+    let rows = &mut *workspace.rows;
     let marks = &mut *workspace.marks;
-    let row = &mut *workspace.row;
     let out = &mut *workspace.out;
     match call {
         Call::Settings(_) => answer_nine(state, out),
@@ -82,7 +81,7 @@ pub fn answer_call(state: State, workspace: &mut Workspace<'_>, call: Call) -> S
         Call::Cleanup => clean_up(state, rows, marks, out),
         Call::Query(rect) => {
             let window = Window::all_inks(rect);
-            list(state, rows, marks, window, row, out)
+            list(state, workspace, window)
         }
     }
 }

@@ -11,7 +11,7 @@ use calls::cleanup::cleanup;
 use calls::insert::insert;
 use calls::remove::remove;
 use geometry::aabb::AABB;
-use lines::answer::{answer_one, answer_two};
+use lines::answer::{answer_one, answer_refusal, answer_two};
 use memory::rows::RowsMut;
 use model::{Dot, State};
 use ticket::Step;
@@ -22,7 +22,7 @@ pub fn answer_insert(
     marks: &mut [u8],
     dot: Dot,
     out: &mut [u8],
-) -> Step
+) -> Step<State>
     requires { 24 ≤ length out.old }
     ensures next_in_bounds { result.next ≤ length out.new }
     ensures same_rows { SameRows rows.old rows.new }
@@ -32,7 +32,7 @@ pub fn answer_insert(
 {
     match insert(state, rows, marks, dot) {
         Err(refusal) => {
-            let next = answer_one(out, b'E', refusal.number());
+            let next = answer_refusal(out, refusal);
             Step { state, next }
         }
         Ok(inserted) => {
@@ -52,7 +52,7 @@ pub fn answer_remove(
     id: u32,
     rect: AABB,
     out: &mut [u8],
-) -> Step
+) -> Step<State>
     requires { 24 ≤ length out.old }
     ensures next_in_bounds { result.next ≤ length out.new }
     ensures same_rows { SameRows rows.old rows.new }
@@ -62,7 +62,7 @@ pub fn answer_remove(
 {
     match remove(state, rows, marks, id, rect) {
         Err(refusal) => {
-            let next = answer_one(out, b'E', refusal.number());
+            let next = answer_refusal(out, refusal);
             Step { state, next }
         }
         Ok(Some(after)) => {
@@ -84,7 +84,7 @@ pub fn answer_cleanup(
     rects: &[i32],
     marks: &mut [u8],
     out: &mut [u8],
-) -> Step
+) -> Step<State>
     requires { 24 ≤ length out.old }
     ensures next_in_bounds { result.next ≤ length out.new }
     ensures cleanup_line { CleanupLine (world state nodes.old dots.now rects.now marks.old)
@@ -93,7 +93,7 @@ pub fn answer_cleanup(
 {
     match cleanup(state, nodes, dots, rects, marks) {
         Err(refusal) => {
-            let next = answer_one(out, b'E', refusal.number());
+            let next = answer_refusal(out, refusal);
             Step { state, next }
         }
         Ok(Some(after)) => {

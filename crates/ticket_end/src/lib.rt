@@ -2,12 +2,12 @@
 #![tactic(auto)]
 
 ghost use Rattle.std.specs.Prelude.{◌≡◌, ◌≤◌, length, take};
-ghost use Rattle.ticket.specs.Workspace.{lent_in, HasRoom, SameWorkspace};
+ghost use Rattle.ticket.specs.Workspace.{lent_in, SameWorkspace};
 ghost use Rattle.ticket_end.specs.End.{is_left, end_phase, Finished};
 
 use std::io::Write;
 use stream::Stream;
-use ticket::{Phase, Program, Workspace};
+use ticket::{Phase, Workspace};
 use ticket_turn::turn;
 
 // The phase, and how many bytes of a line that is not whole yet are kept.
@@ -36,23 +36,21 @@ fn ended(phase: Phase) -> Phase
 
 // The last line, which may lack its LF; a first line that is missing is unreadable.
 pub fn finish<W: Write>(
-    program: Program,
     progress: Progress,
-    workspace: &mut Workspace<'_>,
+    workspace: &mut Workspace,
     line: &[u8],
     output: &mut Stream<W>,
 ) -> Phase
-    requires room { HasRoom program workspace.old }
-    requires kept_in_bounds { progress.kept ≤ length line.now }
+    requires { progress.kept ≤ length line.now }
     ensures same_rows { SameWorkspace workspace.old workspace.new }
-    ensures finished { Finished program progress.phase (take progress.kept line.now)
+    ensures finished { Finished workspace.old.program progress.phase (take progress.kept line.now)
         (lent_in workspace.old) result (lent_in workspace.new) }
 {
     let phase = progress.phase;
     let kept = progress.kept;
     if is_left(phase, kept) {
         let last = &line[..kept];
-        ended(turn(program, phase, workspace, last, output))
+        ended(turn(phase, workspace, last, output))
     } else {
         ended(phase)
     }

@@ -4,8 +4,9 @@
 mod reads;
 mod run;
 
-ghost use Rattle.std.specs.Prelude.{◌≤◌, length};
+ghost use Rattle.std.specs.Prelude.{◌≡◌, ◌≤◌, length};
 ghost use Rattle.ticket.specs.Room.{Room};
+ghost use Rattle.ticket_io.specs.Reading.{RowsAnswered};
 
 use crate::run::answer_ticket;
 use memory::rows::RowsMut;
@@ -24,7 +25,8 @@ fn run_program<R: Read + Drop, W: Write + Drop, E: Eprint>(
     errors: &E,
 ) -> u32
     requires { Room program (length row.old) (length out.old) }
-    ensures { result ≤ 1 }
+    ensures upper_bound { result ≤ 1 }
+    ensures rows_answered { result ≡ 0 → RowsAnswered program row.old out.old row.new out.new }
 {
     let mut input = Stream::new(input);
     let mut output = Stream::new(output);
@@ -34,19 +36,19 @@ fn run_program<R: Read + Drop, W: Write + Drop, E: Eprint>(
     let mut marks = [0u8; 1536];
     let mut line = [0u8; 81];
     let mut buffer = [0u8; 4096];
-    let rows = RowsMut {
+    let mut rows = RowsMut {
         nodes: &mut nodes,
         dots: &mut dots,
         rects: &mut rects,
     };
     let mut workspace = Workspace {
-        rows,
+        program,
+        rows: &mut rows,
         marks: &mut marks,
         row,
         out,
     };
     answer_ticket(
-        program,
         &mut workspace,
         &mut line,
         &mut buffer,

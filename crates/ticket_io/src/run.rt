@@ -1,7 +1,7 @@
 // A ticket from standard input to standard output: one read after another, to the input's end.
 ghost use Rattle.std.specs.Prelude.{◌≡◌, ◌≤◌, length};
 ghost use Rattle.ticket.specs.Turns.{is_over};
-ghost use Rattle.ticket.specs.Workspace.{lent_in, HasRoom, SameWorkspace};
+ghost use Rattle.ticket.specs.Workspace.{lent_in, SameWorkspace};
 ghost use Rattle.ticket_io.specs.Reading.{AllAnswered};
 
 use crate::reads::read_on;
@@ -20,23 +20,22 @@ fn is_over(phase: Phase) -> bool
 // Reads to the input's end, or until no line is answered any more.
 // Nothing says that the input ends, so the loop ends after a number of turns that no run uses up.
 fn run<R: Read, W: Write>(
-    program: Program,
-    workspace: &mut Workspace<'_>,
+    workspace: &mut Workspace,
     line: &mut [u8],
     buffer: &mut [u8],
     input: &mut Stream<R>,
     output: &mut Stream<W>,
 ) -> Phase
-    requires { HasRoom program workspace.old × (length line.old ≡ 81) }
+    requires { length line.old ≡ 81 }
     ensures same_rows { SameWorkspace workspace.old workspace.new }
-    ensures all_answered { result ≡ Phase.Ended → AllAnswered program (lent_in workspace.old) (lent_in workspace.new) }
+    ensures all_answered { result ≡ Phase.Ended → AllAnswered workspace.old.program (lent_in workspace.old) (lent_in workspace.new) }
 {
     let mut progress = Progress {
         phase: Phase::First,
         kept: 0,
     };
     for _ in 0..u64::MAX {
-        progress = read_on(program, progress, workspace, line, buffer, input, output);
+        progress = read_on(progress, workspace, line, buffer, input, output);
         let phase = progress.phase;
         if is_over(phase) {
             return phase;
@@ -63,26 +62,25 @@ fn failed<E: Eprint>(program: Program, failure: Option<Error>, errors: &E) -> u3
 
 // The header, then the answers. The status is 0, or 1 where a read or a write failed: then nothing more is read or answered.
 pub fn answer_ticket<R: Read, W: Write, E: Eprint>(
-    program: Program,
-    workspace: &mut Workspace<'_>,
+    workspace: &mut Workspace,
     line: &mut [u8],
     buffer: &mut [u8],
     input: &mut Stream<R>,
     output: &mut Stream<W>,
     errors: &E,
 ) -> u32
-    requires { HasRoom program workspace.old × (length line.old ≡ 81) }
+    requires { length line.old ≡ 81 }
     ensures same_rows { SameWorkspace workspace.old workspace.new }
     ensures upper_bound { result ≤ 1 }
-    ensures all_answered { result ≡ 0 → AllAnswered program (lent_in workspace.old) (lent_in workspace.new) }
+    ensures all_answered { result ≡ 0 → AllAnswered workspace.old.program (lent_in workspace.old) (lent_in workspace.new) }
 {
-    if !write_bytes(output, b"DOTS,1\n") {
-        return failed(program, output.failure, errors);
+    if write_bytes(output, b"DOTS,1\n").is_none() {
+        return failed(workspace.program, output.failure, errors);
     }
-    let phase = run(program, workspace, line, buffer, input, output);
+    let phase = run(workspace, line, buffer, input, output);
     if let Phase::Ended = phase {
         0
     } else {
-        failed(program, input.failure.or(output.failure), errors)
+        failed(workspace.program, input.failure.or(output.failure), errors)
     }
 }

@@ -10,7 +10,7 @@ ghost use Rattle.ticket.specs.Report.{GridAnswered};
 use calls::query::query;
 use calls::report::grid_report;
 use grid::grid::Grid;
-use lines::answer::{answer_one, answer_query};
+use lines::answer::{answer_query, answer_refusal};
 use lines::report::answer_report;
 use memory::rows::Rows;
 use model::{State, Window};
@@ -23,7 +23,7 @@ pub fn answer_listing(
     window: Window,
     row: &mut [u32],
     out: &mut [u8],
-) -> Step
+) -> Step<State>
     requires { 24 + 11 * length row.old ≤ length out.old }
     ensures next_in_bounds { result.next ≤ length out.new }
     ensures query_line { QueryLine (world_of state (held rows.entry) marks.old) window
@@ -32,7 +32,7 @@ pub fn answer_listing(
 {
     match query(state, rows, marks, window, row) {
         Err(refusal) => {
-            let next = answer_one(out, b'E', refusal.number());
+            let next = answer_refusal(out, refusal);
             Step { state, next }
         }
         Ok(found) => {
@@ -58,7 +58,7 @@ pub fn answer_grid(
         (output out.old out.new result) }
 {
     match grid_report(state, rows, marks, grid, row) {
-        Err(refusal) => answer_one(out, b'E', refusal.number()),
+        Err(refusal) => answer_refusal(out, refusal),
         Ok(total) => { answer_report(out, grid.column_count(), grid.row_count(), row, total) }
     }
 }

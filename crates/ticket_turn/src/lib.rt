@@ -2,93 +2,63 @@
 #![tactic(auto)]
 
 ghost use Rattle.std.specs.Prelude.{◌≤◌, length};
-ghost use Rattle.ticket.specs.First.{end_of};
 ghost use Rattle.ticket.specs.Turns.{phase_of, GoesTo, Turn};
-ghost use Rattle.ticket.specs.Workspace.{lent_in, HasRoom, SameWorkspace};
+ghost use Rattle.ticket.specs.Workspace.{lent_in, SameWorkspace};
 
 use model::State;
 use std::io::Write;
 use stream::{Stream, write_bytes};
-use ticket::{Phase, Program, Start, Step, Workspace};
+use ticket::{Phase, Program, Step, Workspace};
 use ticket_first::answer_first;
 use ticket_later::{answer_grid_line, answer_line};
 
-// The answer is written, or nothing goes on.
-fn answered<W: Write>(out: &[u8], next: usize, phase: Phase, output: &mut Stream<W>) -> Phase
-    requires { next ≤ length out.now }
-    ensures { GoesTo phase result }
-{
-    if write_bytes(output, &out[..next]) {
-        phase
-    } else {
-        Phase::Failed
-    }
-}
-
-// The answer is written, and the tree goes on or the end is reached.
-fn started<W: Write>(out: &[u8], start: Start, output: &mut Stream<W>) -> Phase
-    requires { end_of start ≤ length out.now }
-    ensures { GoesTo (phase_of start) result }
-{
-    match start {
-        Start::Going(state, next) => answered(out, next, Phase::Going(state), output),
-        Start::Ended(next) => answered(out, next, Phase::Ended, output),
-    }
-}
-
-// The answer is written, and the tree goes on.
-fn stepped<W: Write>(out: &[u8], step: Step, output: &mut Stream<W>) -> Phase
+// The answer is written, and the tree goes on or the end is reached; or it could not be.
+fn stepped<W: Write>(out: &[u8], step: Step<Option<State>>, output: &mut Stream<W>) -> Phase
     requires { step.next ≤ length out.now }
-    ensures { GoesTo (Phase.Going step.state) result }
+    ensures { GoesTo (phase_of step.state) result }
 {
-    let state = step.state;
-    answered(out, step.next, Phase::Going(state), output)
+    match (write_bytes(output, &out[..step.next]), step.state) {
+        (Some(()), Some(state)) => Phase::Going(state),
+        (Some(()), None) => Phase::Ended,
+        (None, _) => Phase::Failed,
+    }
 }
 
-// A line after the first.
+// A line after the first. A match: a trait would have the two programs' answers as its members, where the statement has them as its cases.
 fn answer<W: Write>(
-    program: Program,
     state: State,
-    workspace: &mut Workspace<'_>,
+    workspace: &mut Workspace,
     line: &[u8],
     output: &mut Stream<W>,
 ) -> Phase
-    requires { HasRoom program workspace.old }
     ensures same_rows { SameWorkspace workspace.old workspace.new }
-    ensures turn { Turn program (Phase.Going state)
+    ensures turn { Turn workspace.old.program (Phase.Going state)
         (lent_in workspace.old) line.now result (lent_in workspace.new) }
 {
-    match program {
-        Program::Dotcheck => {
-            let step = answer_line(state, workspace, line);
-            stepped(workspace.bytes(), step, output)
-        }
-        Program::Gridreport => {
-            let start = answer_grid_line(state, workspace, line);
-            started(workspace.bytes(), start, output)
-        }
-    }
+    let step = match workspace.program {
+        Program::Dotcheck => answer_line(state, workspace, line).goes_on(),
+        Program::Gridreport => answer_grid_line(state, workspace, line),
+    };
+    stepped(workspace.bytes(), step, output)
 }
 
 // A whole line, without its LF.
 pub fn turn<W: Write>(
-    program: Program,
     phase: Phase,
-    workspace: &mut Workspace<'_>,
+    workspace: &mut Workspace,
     line: &[u8],
     output: &mut Stream<W>,
 ) -> Phase
-    requires { HasRoom program workspace.old }
     ensures same_rows { SameWorkspace workspace.old workspace.new }
-    ensures turn { Turn program phase
+    ensures turn { Turn workspace.old.program phase
         (lent_in workspace.old) line.now result (lent_in workspace.new) }
 {
     match phase {
         Phase::First => {
-            let start = answer_first(&mut workspace.rows, workspace.marks, line, workspace.out);
-            started(workspace.bytes(), start, output)
+            let step = answer_first(workspace.rows, workspace.marks, line, workspace.out);
+            stepped(workspace.bytes(), step, output)
         }
-        Phase::Going(state) => answer(program, state, workspace, line, output),
+        Phase::Going(state) => answer(state, workspace, line, output),
         Phase::Ended | Phase::Failed => phase,
     }
 }

@@ -1,7 +1,6 @@
 -- That a signed number is what the machine reads back from its bits. A function that passes a field on proves it by `search needs`.
 --     ReadBack     of one number
 --     ReadAxis     of a patch's first corner and of the bounds on an axis
---     wide_back    of a number that was cast to an i64
 use mathlib.Core.Path.{◌≡◌, refl}
 use lib.IntN.{ℤ}
 use mir.Syntax.{w32, w64}
@@ -16,6 +15,3 @@ pub record ReadAxis (corner above below : ℤ) : Type 0 where
   pub first : ReadBack corner
   pub over : ReadBack above
   pub upto : ReadBack below
-
-pub wide_back : (z : ℤ) → SFits w32 z → to_z w64 (of_z w64 (to_z w32 (of_z w32 z))) ≡ z
-wide_back z f = rw (to_z-of_z f, to_z-of_z (wide f)) refl

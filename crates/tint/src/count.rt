@@ -4,41 +4,13 @@ ghost use Rattle.arithmetic.specs.Ints.{natural};
 ghost use Rattle.geometry.specs.Settings.{axis_fits, in_range};
 ghost use Rattle.model.specs.Patch.{patch_fits, patch_rects, patch_dots, ids_fit};
 ghost use Rattle.model.specs.Thresholds.{count_before};
-ghost use Rattle.tint.specs.Sums.{TileSums};
 ghost use Rattle.tint.specs.Counts.{dots_between, corners_within, within_bounds, unit_upto, unit_bounds};
 
-use crate::sums::SUMS;
+use crate::sums::TiledPatch;
 use geometry::bounds::Bounds;
 use geometry::settings::Settings;
 use model::patch::Patch;
 use std::ops::Range;
-
-// The dots left of a column and above a row: those of whole tiles, and of the rest beside and below them.
-fn dots_before(sums: &[u32; SUMS], tint: u32, column: u32, row: u32) -> u32
-    requires { (column ≤ 1024) × (row ≤ 1024) × (tint ≤ 256) × TileSums tint sums.now }
-    ensures { result ≡ count_before tint column row }
-{
-    let across = column / 16;
-    let down = row / 16;
-    let c = (column % 16) as usize;
-    let r = (row % 16) as usize;
-    down * (across * tint + sums[272 + c]) + (across * sums[17 * r + 16] + sums[17 * r + c])
-}
-
-// The dots in a span of columns and a span of rows.
-fn dots_between(sums: &[u32; SUMS], tint: u32, across: Range<u32>, down: Range<u32>) -> u32
-    requires { (across.end ≤ 1024) × (down.end ≤ 1024) × (tint ≤ 256) × TileSums tint sums.now }
-    ensures { result ≡ dots_between tint across down }
-{
-    if across.is_empty() | down.is_empty() {
-        return 0;
-    }
-    let whole = dots_before(sums, tint, across.end, down.end);
-    let corner = dots_before(sums, tint, across.start, down.start);
-    let left = dots_before(sums, tint, across.start, down.end);
-    let above = dots_before(sums, tint, across.end, down.start);
-    (whole + corner) - (left + above)
-}
 
 // How many of so many corners lie less than a distance after the first.
 fn corners_before(distance: i64, number: u32) -> u32
@@ -56,14 +28,45 @@ fn corners_within(first: i32, over: i32, upto: i32, number: u32) -> Range<u32>
     from..to
 }
 
-// The dots of a patch within bounds.
-pub fn dots_within(patch: Patch, sums: &[u32; SUMS], bounds: Bounds) -> u32
-    requires { (patch_fits patch ≡ true) × TileSums patch.tint sums.now }
-    ensures { result ≡ length (within_bounds bounds (patch_rects patch)) }
-{
-    let across = corners_within(patch.x, bounds.x_over, bounds.x_upto, 16 * patch.columns);
-    let down = corners_within(patch.y, bounds.y_over, bounds.y_upto, 16 * patch.rows);
-    dots_between(sums, patch.tint, across, down)
+impl TiledPatch {
+    // The dots left of a column and above a row: those of whole tiles, and of the rest beside and below them.
+    fn dots_before(&self, column: u32, row: u32) -> u32
+        requires { (column ≤ 1024) × (row ≤ 1024) }
+        ensures { result ≡ count_before self.now.patch.tint column row }
+    {
+        let sums = &self.sums;
+        let tint = self.patch.tint;
+        let across = column / 16;
+        let down = row / 16;
+        let c = (column % 16) as usize;
+        let r = (row % 16) as usize;
+        down * (across * tint + sums[272 + c]) + (across * sums[17 * r + 16] + sums[17 * r + c])
+    }
+
+    // The dots in a span of columns and a span of rows.
+    fn dots_between(&self, across: Range<u32>, down: Range<u32>) -> u32
+        requires { (across.end ≤ 1024) × (down.end ≤ 1024) }
+        ensures { result ≡ dots_between self.now.patch.tint across down }
+    {
+        if across.is_empty() | down.is_empty() {
+            return 0;
+        }
+        let whole = self.dots_before(across.end, down.end);
+        let corner = self.dots_before(across.start, down.start);
+        let left = self.dots_before(across.start, down.end);
+        let above = self.dots_before(across.end, down.start);
+        (whole + corner) - (left + above)
+    }
+
+    // The dots of the patch within bounds.
+    pub fn dots_within(&self, bounds: Bounds) -> u32
+        ensures { result ≡ length (within_bounds bounds (patch_rects self.now.patch)) }
+    {
+        let patch = self.patch;
+        let across = corners_within(patch.x, bounds.x_over, bounds.x_upto, 16 * patch.columns);
+        let down = corners_within(patch.y, bounds.y_over, bounds.y_upto, 16 * patch.rows);
+        self.dots_between(across, down)
+    }
 }
 
 // The bound above for a one-unit dot on one axis of the root.

@@ -4,7 +4,7 @@ ghost use Rattle.tree.specs.Routes.{Way, LeadsTo};
 use geometry::aabb::AABB;
 use geometry::node_data::NodeData;
 use geometry::settings::Settings;
-use memory::node::{Node, node_at};
+use memory::node::node_at;
 
 // A leaf: the number of its node, and what a walk knows there.
 #[derive(Clone, Copy)]
@@ -21,7 +21,7 @@ pub fn find_leaf(settings: Settings, nodes: &[u32], rect: AABB) -> Leaf
     let mut node: usize = 0;
     let mut data = NodeData::root(settings);
     let mut words = node_at(nodes, node);
-    while words.count == Node::BRANCH {
+    while words.is_branch() {
         let cell = data.cell;
         let child = cell.route(rect);
         node = words.first as usize + child as usize;

@@ -10,12 +10,10 @@ fn list_chain(dots: &[u32], leaf: Node, start: usize, row: &mut [u32]) -> usize
     requires { ChainList dots.now row.old start leaf.first leaf.count }
     ensures { ChainListed dots.now row.old start leaf.first leaf.count row.new result }
 {
-    let mut at = start;
-    for place in Chain::new(dots, leaf) {
-        row[at] = id_at(dots, place);
-        at += 1;
+    for (i, place) in Chain::new(dots, leaf).enumerate() {
+        row[start + i] = id_at(dots, place);
     }
-    at
+    start + leaf.count as usize
 }
 
 // A node's ids: those of its chain, or of its group.

@@ -6,9 +6,9 @@ ghost use Rattle.tree_check.specs.Checks.{CheckReady, Decided, Checked};
 use crate::chain::check_chain;
 use crate::free::check_free;
 use crate::marks::all_marked;
-use crate::region::{Gate, Region};
+use crate::region::{Region, is_blank};
 use crate::tree::check_node;
-use memory::lengths::{groups_in, lengths_fit, places_in};
+use memory::lengths::lengths_fit;
 use memory::marks::clear_marks;
 use memory::node::Node;
 use memory::rows::Rows;
@@ -16,19 +16,20 @@ use model::State;
 use model::refusal::Refusal;
 
 // Whether the memory, whose marks are 0, is a tree; leaves marks behind.
-fn is_tree(state: State, rows: Rows<'_>, marks: &mut [u8], places: usize, groups: usize) -> bool
-    requires { CheckReady state (held rows) marks.old places groups }
+fn is_tree(state: State, rows: Rows<'_>, marks: &mut [u8]) -> bool
+    requires { CheckReady state (held rows) marks.old }
     ensures { Decided (world_of state (held rows.entry) marks.old) result }
 {
+    let places = rows.places();
     let live = state.live as usize;
     if live > places {
         return false;
     }
     let root = Region::root(state.settings);
-    if !check_node(rows, marks, places, groups, root, 0) {
+    if !check_node(rows, marks, root, 0) {
         return false;
     }
-    if !check_free(rows.nodes, marks, places, groups, state.free_group, groups) {
+    if !check_free(rows, marks, state.free_group) {
         return false;
     }
     let count = (places - live) as u32;
@@ -36,7 +37,7 @@ fn is_tree(state: State, rows: Rows<'_>, marks: &mut [u8], places: usize, groups
         first: state.free_place,
         count,
     };
-    if !check_chain(rows.dots, rows.rects, marks, places, Gate::Free, free) {
+    if !check_chain(rows, marks, is_blank, free) {
         return false;
     }
     all_marked(marks)
@@ -47,18 +48,19 @@ fn is_tree(state: State, rows: Rows<'_>, marks: &mut [u8], places: usize, groups
 pub fn check(state: State, rows: Rows<'_>, marks: &mut [u8]) -> Result<(), Refusal>
     ensures { Checked state (held rows.entry) marks.old marks.new (refusal_number result) }
 {
-    let Rows { nodes, dots, rects } = rows;
-    if !lengths_fit(nodes.len(), dots.len(), rects.len(), marks.len()) {
+    if !lengths_fit(
+        rows.nodes.len(),
+        rows.dots.len(),
+        rows.rects.len(),
+        marks.len(),
+    ) {
         return Err(Refusal::BadLengths);
     }
-    let settings = state.settings;
-    if !settings.in_range() {
+    if !state.settings.in_range() {
         return Err(Refusal::BadSettings);
     }
     clear_marks(marks);
-    let places = places_in(dots);
-    let groups = groups_in(nodes);
-    let tree = is_tree(state, rows, marks, places, groups);
+    let tree = is_tree(state, rows, marks);
     clear_marks(marks);
     if tree { Ok(()) } else { Err(Refusal::NoTree) }
 }

@@ -4,7 +4,6 @@
 --     between, cells           a weight from a place on and before another; in these columns of these rows
 --     weight_of, met_by          what a rectangle adds to each window, by its weight, and how many windows it meets
 --     besides, zero_is, zeros_in         a weight of rectangles but the zero one; how many zero rectangles there are
---     Stepped, Passed      what one place adds, and all places
 use Rattle.std.specs.Prelude.{◌≡◌, List, ◌++◌, cond, ◌&&◌, ℕ, ◌+◌, ◌*◌, ◌/◌, ◌%◌, ◌≤◌, ◌<◌, leb, ltb, ℤ, length, get_or, drop, replicate}
 use Rattle.geometry.specs.declared.aabb.AABB.{AABB}
 use Rattle.geometry.specs.Rectangles.{same_rect, zero_rect}
@@ -12,7 +11,6 @@ use Rattle.grid.specs.declared.grid.Grid.{Grid}
 use Rattle.std.specs.declared.ops.Range.{Range}
 use Rattle.grid.specs.Grids.{columns_of}
 use Rattle.grid.specs.Spans.{in_span, columns_met, rows_met, span_length}
-use Rattle.tree_grid.specs.declared.places.Pass.{Pass}
 use Rattle.model.specs.Sums.{sum_below}
 use Rattle.model.specs.Memory.{rect_at}
 
@@ -57,14 +55,3 @@ zero_is r = cond (same_rect r zero_rect) 1 0
 
 abbrev pub zeros_in : List ℤ → ℕ → ℕ
 zeros_in rects places = sum_below places (λ p. zero_is (rect_at rects p))
-
--- what one place's rectangle adds
-pub record Stepped (g : Grid) (r : AABB) (row row' : List ℕ) (pass pass' : Pass) : Type 0 where
-  pub counts : Added row (λ i. besides (λ q. weight_of g q 1 i) r) row'
-  pub totals : pass'.total ≡ pass.total + besides (met_by g) r
-  pub left_out : pass'.zeros ≡ pass.zeros + zero_is r
-
-pub record Passed (g : Grid) (rects : List ℤ) (places : ℕ) (row row' : List ℕ) (pass : Pass) : Type 0 where
-  pub counts : Added row (λ i. sum_below places (λ p. besides (λ q. weight_of g q 1 i) (rect_at rects p))) row'
-  pub totals : pass.total ≡ sum_below places (λ p. besides (met_by g) (rect_at rects p))
-  pub left_out : pass.zeros ≡ zeros_in rects places

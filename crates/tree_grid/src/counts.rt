@@ -1,7 +1,7 @@
 // The counts of a grid's windows stand in a row, rows downward: what a rectangle adds to them.
 ghost use Rattle.std.specs.Prelude.{◌≡◌, true, ◌*◌, ◌≤◌, length};
 ghost use Rattle.grid.specs.Grids.{windows, sizes_fit};
-ghost use Rattle.tree_grid.specs.Counts.{Added, Room, between, cells, weight_of, met_by};
+ghost use Rattle.tree_grid.specs.Counts.{Added, Room, between, cells};
 
 use geometry::aabb::AABB;
 use grid::grid::Grid;
@@ -31,14 +31,28 @@ fn add_cells(row: &mut [u32], columns: usize, across: Range<u32>, down: Range<u3
     }
 }
 
-// Adds a rectangle as often as its weight says to the windows that it meets; answers how many these are, by arithmetic.
-pub fn add_rect(grid: Grid, rect: AABB, weight: u32, row: &mut [u32]) -> u64
-    requires { (sizes_fit grid ≡ true) × (windows grid ≤ length row.old) × (weight ≤ 65536) × Room 0 (windows grid) weight row.old }
-    ensures { Added row.old (weight_of grid rect weight) row.new × (result ≡ weight * met_by grid rect) }
-{
-    let across = grid.columns_met(rect);
-    let down = grid.rows_met(rect);
-    let met = across.len() as u64 * down.len() as u64;
-    add_cells(row, grid.column_count() as usize, across, down, weight);
-    u64::from(weight) * met
+// A grid, and a row that has a word for each of its windows.
+#[derive(Drop)]
+pub struct Counts<'a> {
+    pub grid: Grid,
+    pub row: &'a mut [u32],
+    pub ghost sized: { sizes_fit grid ≡ true },
+    pub ghost room: { windows grid ≤ length row.now },
+}
+
+impl Counts<'_> {
+    ghost use Rattle.tree_grid.specs.Passes.{RectAdded};
+
+    // Adds a rectangle as often as its weight says to the windows that it meets; answers how many these are, by arithmetic.
+    pub fn add_rect(&mut self, rect: AABB, weight: u32) -> u64
+        requires { (weight ≤ 65536) × Room 0 (windows self.old.grid) weight self.old.row.now }
+        ensures { RectAdded rect weight self.old self.new result }
+    {
+        let grid = self.grid;
+        let across = grid.columns_met(rect);
+        let down = grid.rows_met(rect);
+        let met = across.len() as u64 * down.len() as u64;
+        add_cells(self.row, grid.column_count() as usize, across, down, weight);
+        u64::from(weight) * met
+    }
 }

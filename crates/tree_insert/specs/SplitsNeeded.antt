@@ -1,9 +1,9 @@
 -- The splits that an insert needs (§5.2), counted without a store as far as there are free groups (§11.4).
 --     within       the dots within bounds
---     SomeChain    what the count of a chain asks
+--     SomeChain, CountedWithin     what the count of a chain within bounds asks and tells
 --     Countable    what the count of the splits asks
 --     needed_of, SplitsTold what it tells
-use Rattle.std.specs.Prelude.{◌≡◌, List, Option, Some, None, true, cond, ℕ, ◌≤◌, ℤ, length, leb}
+use Rattle.std.specs.Prelude.{◌≡◌, List, Option, Some, None, true, cond, ℕ, ◌≤◌, length, leb}
 use Rattle.geometry.specs.declared.aabb.AABB.{AABB}
 use Rattle.geometry.specs.declared.bounds.Bounds.{Bounds}
 use Rattle.geometry.specs.declared.settings.Settings.{Settings}
@@ -12,6 +12,7 @@ use Rattle.geometry.specs.Settings.{in_range}
 use Rattle.geometry.specs.Cells.{InRange}
 use Rattle.geometry.specs.Bounds.{in_bounds}
 use Rattle.geometry.specs.Levels.{levels_left}
+use Rattle.model.specs.Sums.{sum_over}
 use Rattle.model.specs.Lists.{All}
 use Rattle.model.specs.Dots.{acceptable_dot}
 use Rattle.model.specs.Trees.{Placed, leaf}
@@ -24,15 +25,18 @@ use Rattle.tree_insert.specs.FreeGroups.{FreeIn}
 abbrev pub within : Bounds → Placed → ℕ
 within b d = cond (in_bounds b d.dot.rect) 1 0
 
-pub record SomeChain (dots : List ℕ) (rects : List ℤ) (head count : ℕ) : Type 0 where
+pub record SomeChain (h : Held) (node : Node) : Type 0 where
   pub chain : List Placed
-  pub stands : ChainStands dots rects head count chain
+  pub stands : ChainStands h.dots h.rects node.first node.count chain
 
-pub record Countable (s : Settings) (dots : List ℕ) (rects : List ℤ) (node : Node) (n : NodeData) : Type 0 where
+abbrev pub CountedWithin : Held → Node → Bounds → ℕ → Type 0
+CountedWithin h node b count = (chain : List Placed) → ChainStands h.dots h.rects node.first node.count chain → count ≡ sum_over (within b) chain
+
+pub record Countable (s : Settings) (h : Held) (node : Node) (n : NodeData) : Type 0 where
   pub settings : in_range s ≡ true
   pub range : InRange n.cell
   pub chain : List Placed
-  pub stands : ChainStands dots rects node.first node.count chain
+  pub stands : ChainStands h.dots h.rects node.first node.count chain
   pub dots_fit : All (λ d. acceptable_dot s d.dot ≡ true) chain
   pub counted : node.count ≡ length chain
 
@@ -43,5 +47,5 @@ needed_of splits groups = cond (leb splits groups) (Some splits) None
 -- the splits of every leaf with that chain, beside every list of free groups from that head
 abbrev pub SplitsTold : Settings → Held → Node → NodeData → AABB → ℕ → Option ℕ → Type 0
 SplitsTold s h node n r head needed =
-    (k : Countable s h.dots h.rects node n) (levels : ℕ) → levels_left s n ≤ levels → (free : List ℕ) → FreeIn h.nodes head free
+    (k : Countable s h node n) (levels : ℕ) → levels_left s n ≤ levels → (free : List ℕ) → FreeIn h.nodes head free
     → needed ≡ needed_of (split_count s levels n r (leaf k.chain)) (length free)

@@ -1,12 +1,9 @@
 // What an insert needs before it stores anything: the splits, with a free group for each.
-ghost use Rattle.std.specs.Prelude.{◌≡◌, ◌&&◌, List, leb};
+ghost use Rattle.std.specs.Prelude.{◌≡◌, ◌&&◌, leb};
 ghost use Rattle.geometry.specs.Cells.{may_split};
-ghost use Rattle.model.specs.Sums.{sum_over};
-ghost use Rattle.model.specs.Trees.{Placed};
 ghost use Rattle.memory.specs.Lent.{held};
-ghost use Rattle.tree.specs.Chains.{ChainStands};
 ghost use Rattle.tree_insert.specs.FreeGroups.{SomeFree};
-ghost use Rattle.tree_insert.specs.SplitsNeeded.{within, SomeChain, Countable, SplitsTold};
+ghost use Rattle.tree_insert.specs.SplitsNeeded.{SomeChain, CountedWithin, Countable, SplitsTold};
 
 use geometry::aabb::AABB;
 use geometry::bounds::Bounds;
@@ -27,16 +24,13 @@ pub fn must_split(settings: Settings, node_data: NodeData, count: u32) -> bool
 }
 
 // How many dots of a chain lie within bounds.
-pub fn count_within(dots: &[u32], rects: &[i32], chain: Node, bounds: Bounds) -> u32
-    requires { SomeChain dots.now rects.now chain.first chain.count }
-    ensures { (ds : List Placed) → ChainStands dots.now rects.now chain.first chain.count ds
-        → result ≡ sum_over (within bounds) ds }
+pub fn count_within(rows: Rows<'_>, chain: Node, bounds: Bounds) -> u32
+    requires { SomeChain (held rows) chain }
+    ensures { CountedWithin (held rows.entry) chain bounds result }
 {
     let mut count: u32 = 0;
-    for place in Chain::new(dots, chain) {
-        if bounds.holds(rect_at(rects, place)) {
-            count += 1;
-        }
+    for place in Chain::new(rows.dots, chain) {
+        count += u32::from(bounds.holds(rect_at(rows.rects, place)));
     }
     count
 }
@@ -50,7 +44,7 @@ pub fn splits_needed(
     node_data: NodeData,
     rect: AABB,
 ) -> Option<u32>
-    requires { Countable state.settings rows.dots.now rows.rects.now chain node_data × SomeFree rows.nodes.now state.free_group }
+    requires { Countable state.settings (held rows) chain node_data × SomeFree rows.nodes.now state.free_group }
     ensures { SplitsTold state.settings (held rows.entry) chain node_data rect state.free_group result }
 {
     let settings = state.settings;
@@ -68,7 +62,7 @@ pub fn splits_needed(
         let child = cell.route(rect);
         bounds = bounds.below(cell, child);
         reached = reached.child(child);
-        count = count_within(rows.dots, rows.rects, chain, bounds);
+        count = count_within(rows, chain, bounds);
         splits += 1;
     }
     Some(splits)

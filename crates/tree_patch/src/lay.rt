@@ -1,7 +1,6 @@
 // The dots of a patch, laid by one insert after another. That none of them is refused has been found before the first.
 ghost use Rattle.std.specs.Prelude.{◌≡◌, suc, ◌<◌, ◌*◌, ◌≤◌, pos, ◌+ℤ◌};
 ghost use Rattle.std.specs.Int.{w32};
-ghost use Rattle.model.specs.Thresholds.{thresholds};
 ghost use Rattle.std.proofs.Common.{SFits};
 ghost use Rattle.memory.specs.Lent.{held_mut, SameRows};
 ghost use Rattle.tree_patch.specs.Laid.{DotAt, patch_dot, DotFits, none_laid, SomeProgress, Proceeds};
@@ -11,7 +10,6 @@ use memory::rows::RowsMut;
 use model::answers::Changed;
 use model::patch::Patch;
 use model::{Dot, State};
-use tint::table::THRESHOLDS;
 use tint::thresholds::next_dot;
 use tree_insert::insert_dot;
 
@@ -20,7 +18,7 @@ fn along(first: i32, units: u32) -> i32
     requires { (units ≤ 2147483647) × SFits w32 (first +ℤ pos units) }
     ensures { result ≡ first +ℤ pos units }
 {
-    first + (units as i32)
+    first + units.cast_signed()
 }
 
 // The dot at a column and a row of a patch, after so many others.
@@ -61,24 +59,18 @@ fn lay_dot(laid: Changed, rows: &mut RowsMut<'_>, patch: Patch, column: u32, row
     }
 }
 
-// Lays the dots of a row, from one to the next. A `while`: `next_dot` says which column is next, and most have no dot.
-fn lay_row(
-    before: Changed,
-    rows: &mut RowsMut<'_>,
-    table: &[u8; 256],
-    patch: Patch,
-    row: u32,
-) -> Changed
-    requires { SomeProgress patch 0 row before (held_mut rows.old) × (row < 16 * patch.rows) × (table.now ≡ thresholds) }
+// Lays the dots of a row, from one to the next. A `while`: `next_dot` says which column is next, since not each has a dot.
+fn lay_row(before: Changed, rows: &mut RowsMut<'_>, patch: Patch, row: u32) -> Changed
+    requires { SomeProgress patch 0 row before (held_mut rows.old) × (row < 16 * patch.rows) }
     ensures same_rows { SameRows rows.old rows.new }
     ensures proceeds { Proceeds patch 0 row before (held_mut rows.old) 0 (suc row) result (held_mut rows.new) }
 {
     let width = 16 * patch.columns;
     let mut laid = before;
-    let mut column = next_dot(table, patch, 0, row);
+    let mut column = next_dot(patch, 0, row);
     while column < width {
         laid = lay_dot(laid, rows, patch, column, row);
-        column = next_dot(table, patch, column + 1, row);
+        column = next_dot(patch, column + 1, row);
     }
     laid
 }
@@ -89,11 +81,10 @@ pub fn lay_rows(state: State, rows: &mut RowsMut<'_>, patch: Patch) -> Changed
     ensures same_rows { SameRows rows.old rows.new }
     ensures proceeds { Proceeds patch 0 0 (none_laid state) (held_mut rows.old) 0 (16 * patch.rows) result (held_mut rows.new) }
 {
-    let table = THRESHOLDS;
     let height = 16 * patch.rows;
     let mut laid = Changed { state, number: 0 };
     for row in 0..height {
-        laid = lay_row(laid, rows, &table, patch, row);
+        laid = lay_row(laid, rows, patch, row);
     }
     laid
 }

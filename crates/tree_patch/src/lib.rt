@@ -21,8 +21,8 @@ use model::State;
 use model::answers::Changed;
 use model::patch::Patch;
 use model::refusal::Refusal;
-use tint::count::{dots_number, dots_within, ids_fit, unit_bounds};
-use tint::sums::{SUMS, fill_sums};
+use tint::count::{dots_number, ids_fit, unit_bounds};
+use tint::sums::TiledPatch;
 
 // Whether no dot of the patch would be refused in its turn. Nothing is stored: the splits of all dots together do not depend on their order.
 fn can_lay(state: State, rows: Rows<'_>, patch: Patch) -> bool
@@ -38,13 +38,11 @@ fn can_lay(state: State, rows: Rows<'_>, patch: Patch) -> bool
     if places_in(rows.dots) < live {
         return false;
     }
-    let mut sums = [0; SUMS];
-    fill_sums(&mut sums, patch.tint);
-    let settings = state.settings;
-    if dots_within(patch, &sums, unit_bounds(settings)) < number {
+    let tiled = TiledPatch::new(patch);
+    if tiled.dots_within(unit_bounds(state.settings)) < number {
         return false;
     }
-    let splits = patch_splits(state, rows, patch, &sums);
+    let splits = patch_splits(state, rows, &tiled);
     has_free(rows.nodes, state.free_group, splits)
 }
 
@@ -57,7 +55,7 @@ pub fn lay_patch(state: State, rows: &mut RowsMut<'_>, patch: Patch) -> Result<C
     if !can_lay(state, rows.shared(), patch) {
         return Err(Refusal::PatchTooLarge);
     }
-    if !state.can_count(dots_number(patch) as u64) {
+    if !state.can_count(u64::from(dots_number(patch))) {
         return Err(Refusal::TooManyChanges);
     }
     Ok(lay_rows(state, rows, patch))

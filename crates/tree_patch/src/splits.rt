@@ -1,13 +1,11 @@
 // The splits that the dots of a tint patch make together, counted without a store.
 // A cell is counted by the dots within its bounds: those of the leaf that it is, or would lie below, and those of the patch.
-ghost use Rattle.std.specs.Prelude.{◌≡◌, true, cond, ◌+◌, ◌≤◌, ◌<◌, eqb};
+ghost use Rattle.std.specs.Prelude.{◌≡◌, cond, ◌+◌, ◌≤◌, ◌<◌, eqb};
 ghost use Rattle.geometry.specs.Cells.{InRange};
 ghost use Rattle.model.specs.Layout.{branch_mark};
-ghost use Rattle.model.specs.Patch.{patch_fits};
 ghost use Rattle.memory.specs.Lent.{held};
 ghost use Rattle.memory.specs.Rows.{HasNode};
 ghost use Rattle.tree.specs.Operations.{IsTree};
-ghost use Rattle.tint.specs.Sums.{TileSums};
 ghost use Rattle.tree_patch.specs.Cells.{cell_below};
 ghost use Rattle.tree_patch.specs.Counts.{Filled, FullTold, CellCount, CellCounted, GroupCount, GroupCounted, AllAcceptable, PatchCounted};
 
@@ -17,9 +15,7 @@ use geometry::settings::Settings;
 use memory::node::{Node, node_at};
 use memory::rows::Rows;
 use model::State;
-use model::patch::Patch;
-use tint::count::dots_within;
-use tint::sums::SUMS;
+use tint::sums::TiledPatch;
 use tree_insert::needed::count_within;
 
 // A cell that dots may fill: its node, or that of the leaf that it would lie below, and what a walk knows there.
@@ -61,76 +57,56 @@ fn child_cell(nodes: &[u32], cell: Cell, child: u32) -> Cell
 }
 
 // Whether a leaf's cell may split and would hold more dots than the leaf limit, with so many of the patch.
-fn is_overfull(
-    settings: Settings,
-    dots: &[u32],
-    rects: &[i32],
-    chain: Node,
-    cell: Cell,
-    laid: u32,
-) -> bool
-    requires { Filled dots.now rects.now chain laid }
-    ensures { FullTold settings dots.now rects.now chain cell laid result }
+fn is_overfull(settings: Settings, rows: Rows<'_>, chain: Node, cell: Cell, laid: u32) -> bool
+    requires { Filled (held rows) chain laid }
+    ensures { FullTold settings (held rows.entry) chain cell laid result }
 {
     let node_data = cell.node_data;
     if !node_data.can_split_further(settings.smallest_cell, settings.depth_limit) {
         return false;
     }
-    let held = laid + count_within(dots, rects, chain, cell.bounds);
+    let held = laid + count_within(rows, chain, cell.bounds);
     settings.leaf_limit < held
 }
 
 // The splits at a cell and below it.
 #[cycle(cell_splits_group_splits)]
-fn cell_splits(
-    settings: Settings,
-    rows: Rows<'_>,
-    cell: Cell,
-    patch: Patch,
-    sums: &[u32; SUMS],
-) -> u32
-    requires { CellCount settings (held rows) cell patch sums.now }
-    ensures { CellCounted settings (held rows.entry) cell patch result }
+fn cell_splits(settings: Settings, rows: Rows<'_>, cell: Cell, tiled: &TiledPatch) -> u32
+    requires { CellCount settings (held rows) cell tiled.now.patch }
+    ensures { CellCounted settings (held rows.entry) cell tiled.now.patch result }
 {
-    let laid = dots_within(patch, sums, cell.bounds);
+    let laid = tiled.dots_within(cell.bounds);
     if laid == 0 {
         return 0;
     }
     let words = node_at(rows.nodes, cell.node);
     if words.is_branch() {
-        return group_splits(settings, rows, cell, patch, sums);
+        return group_splits(settings, rows, cell, tiled);
     }
-    if !is_overfull(settings, rows.dots, rows.rects, words, cell, laid) {
+    if !is_overfull(settings, rows, words, cell, laid) {
         return 0;
     }
-    1 + group_splits(settings, rows, cell, patch, sums)
+    1 + group_splits(settings, rows, cell, tiled)
 }
 
 // Those at the children but child 0, and below them.
 #[cycle(cell_splits_group_splits)]
-fn group_splits(
-    settings: Settings,
-    rows: Rows<'_>,
-    cell: Cell,
-    patch: Patch,
-    sums: &[u32; SUMS],
-) -> u32
-    requires { GroupCount settings (held rows) cell 4 patch sums.now }
-    ensures { GroupCounted settings (held rows.entry) cell 4 patch result }
+fn group_splits(settings: Settings, rows: Rows<'_>, cell: Cell, tiled: &TiledPatch) -> u32
+    requires { GroupCount settings (held rows) cell 4 tiled.now.patch }
+    ensures { GroupCounted settings (held rows.entry) cell 4 tiled.now.patch result }
 {
     let mut splits = 0;
     for child in 1..5 {
         let below = child_cell(rows.nodes, cell, child);
-        splits += cell_splits(settings, rows, below, patch, sums);
+        splits += cell_splits(settings, rows, below, tiled);
     }
     splits
 }
 
 // The splits that all dots of a patch make together, where insert accepts their rectangles.
-pub fn patch_splits(state: State, rows: Rows<'_>, patch: Patch, sums: &[u32; SUMS]) -> u32
-    requires { IsTree state (held rows) × (patch_fits patch ≡ true) × TileSums patch.tint sums.now
-        × AllAcceptable state.settings patch }
-    ensures { PatchCounted state (held rows.entry) patch result }
+pub fn patch_splits(state: State, rows: Rows<'_>, tiled: &TiledPatch) -> u32
+    requires { IsTree state (held rows) × AllAcceptable state.settings tiled.now.patch }
+    ensures { PatchCounted state (held rows.entry) tiled.now.patch result }
 {
     let settings = state.settings;
     let node_data = NodeData::root(settings);
@@ -142,5 +118,5 @@ pub fn patch_splits(state: State, rows: Rows<'_>, patch: Patch, sums: &[u32; SUM
         bounds,
         levels,
     };
-    cell_splits(settings, rows, root, patch, sums)
+    cell_splits(settings, rows, root, tiled)
 }

@@ -3,7 +3,7 @@
 --     after, row_after, Left        what it has found, and the row, once some dots are listed and some nodes opened
 --     CanGrow                      the counts may still grow by so much
 --     ChainWalk, ChainWalked, NodeWalk, NodeWalked, GroupWalk, GroupWalked     the contracts of the walks
-use Rattle.std.specs.Prelude.{◌≡◌, List, [], map, cond, ℕ, ◌+◌, ◌≤◌, ◌<◌, ℤ, length, set}
+use Rattle.std.specs.Prelude.{◌≡◌, List, [], map, cond, ℕ, ◌+◌, ◌≤◌, ◌<◌, length, set}
 use Rattle.geometry.specs.declared.aabb.AABB.{AABB}
 use Rattle.geometry.specs.declared.centered_aabb.CenteredAABB.{CenteredAABB}
 use Rattle.geometry.specs.declared.node_data.NodeData.{NodeData}
@@ -16,8 +16,8 @@ use Rattle.model.specs.Dots.{is_hit}
 use Rattle.model.specs.Trees.{Placed, Tree, child_node, size}
 use Rattle.model.specs.Query.{hits, opened}
 use Rattle.model.specs.Layout.{none}
-use Rattle.model.specs.Memory.{read, Chained}
-use Rattle.memory.specs.Lent.{Held}
+use Rattle.model.specs.Memory.{Chained}
+use Rattle.memory.specs.Lent.{Held, mem_of}
 use Rattle.tree.specs.Trees.{InRows, node_total, sum_last, join_last, TreeStands}
 use Rattle.model.specs.declared.answers.Found.{Found}
 use Rattle.std.proofs.lemmas.List.Edits.{sets}
@@ -62,16 +62,16 @@ pub record CanGrow (found : Found) (dots nodes : ℕ) : Type 0 where
   pub hits : found.hits + dots ≤ 65536
   pub opened : found.opened + nodes ≤ 81921
 
-pub record ChainWalk (dots : List ℕ) (rects : List ℤ) (found : Found) (head count : ℕ) : Type 0 where
+pub record ChainWalk (h : Held) (found : Found) (head count : ℕ) : Type 0 where
   pub chain : List Placed
-  pub stands : Chained (read [] dots rects) head chain none
+  pub stands : Chained (mem_of h) head chain none
   pub long : length chain ≡ count
-  pub dots_in : All (InRows dots rects) chain
+  pub dots_in : All (InRows h.dots h.rects) chain
   pub grows : CanGrow found count 0
 
-unfoldable pub ChainWalked : Window → List ℕ → List ℤ → List ℕ → Found → ℕ → ℕ → List ℕ → Found → Type 0
-ChainWalked q dots rects row found head count row' r =
-    (chain : List Placed) → Chained (read [] dots rects) head chain none → length chain ≡ count → Left row found (chain_hits q chain) 0 row' r
+unfoldable pub ChainWalked : Window → Held → List ℕ → Found → ℕ → ℕ → List ℕ → Found → Type 0
+ChainWalked q h row found head count row' r =
+    (chain : List Placed) → Chained (mem_of h) head chain none → length chain ≡ count → Left row found (chain_hits q chain) 0 row' r
 
 pub record NodeWalk (cell : CenteredAABB) (h : Held) (found : Found) (a levels : ℕ) : Type 0 where
   pub tree : Tree

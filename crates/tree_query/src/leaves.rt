@@ -22,8 +22,8 @@ fn keep_leaf(row: &mut [i32], at: usize, node_data: NodeData, count: u32) -> usi
     keep(row, at + 1, cell.center_y);
     keep(row, at + 2, cell.half_width);
     keep(row, at + 3, cell.half_height);
-    keep(row, at + 4, node_data.depth as i32);
-    keep(row, at + 5, count as i32);
+    keep(row, at + 4, node_data.depth.cast_signed());
+    keep(row, at + 5, count.cast_signed());
     at + 6
 }
 

@@ -30,22 +30,16 @@ fn list_dot(query: Window, dot: Dot, hits: u32, row: &mut [u32]) -> u32
 }
 
 // Lists the dots of a leaf's chain that the query asks for.
-fn walk_chain(
-    dots: &[u32],
-    rects: &[i32],
-    leaf: Node,
-    query: Window,
-    found: Found,
-    row: &mut [u32],
-) -> Found
-    requires { ChainWalk dots.now rects.now found leaf.first leaf.count }
-    ensures { ChainWalked query dots.now rects.now row.old found leaf.first leaf.count
+fn walk_chain(rows: Rows<'_>, leaf: Node, query: Window, found: Found, row: &mut [u32]) -> Found
+    requires { ChainWalk (held rows) found leaf.first leaf.count }
+    ensures { ChainWalked query (held rows.entry) row.old found leaf.first leaf.count
         row.new result }
 {
     let opened = found.opened;
     let mut hits = found.hits;
-    for place in Chain::new(dots, leaf) {
-        hits = list_dot(query, dot_at(dots, rects, place), hits, row);
+    for place in Chain::new(rows.dots, leaf) {
+        let dot = dot_at(rows.dots, rows.rects, place);
+        hits = list_dot(query, dot, hits, row);
     }
     Found { hits, opened }
 }
@@ -80,7 +74,7 @@ pub fn walk_node(
         opened: found.opened + 1,
     };
     if !words.is_branch() {
-        return walk_chain(rows.dots, rows.rects, words, query, opened, row);
+        return walk_chain(rows, words, query, opened, row);
     }
     let group = Group {
         first: words.first as usize,

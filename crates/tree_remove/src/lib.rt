@@ -27,7 +27,7 @@ pub struct Hit {
     pub previous: Option<usize>,
 }
 
-// The first dot with an id in a leaf's chain.
+// The first dot with an id in a leaf's chain. A `loop` that a `break` leaves with the place found (§17.4).
 fn find_dot(dots: &[u32], leaf: Node, id: u32) -> Option<Hit>
     requires { Searchable dots.now leaf }
     ensures { (chain : List Placed) → Linked dots.now leaf.first leaf.count chain → result ≡ hit_in id None chain }

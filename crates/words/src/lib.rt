@@ -4,7 +4,7 @@
 ghost use Rattle.std.specs.Prelude.{◌≡◌, ◌<◌};
 ghost use Rattle.words.specs.Words.{signed, word_of, low_word, high_word, wide_of};
 
-// The number that a word stands for. This and the next are one call each: §18.2 has them by name, and a proof knows them by it.
+// The number that a word stands for (§18.2). This and the next are one call each, by whose names the definitions and proofs of the rows know them.
 #[tactic(auto, unfolding(crate::specs::Words::signed))]
 pub fn signed(word: u32) -> i32
     ensures { result ≡ signed word }

@@ -1,21 +1,12 @@
 -- One floor division of natural numbers, for integers; `natural` is 0 for a negative one.
---     natural-zero, natural-same       which of the two it is
 --     up-natural, one-zero     `natural` by `up`, for `omega`; of a number's `up` and `dn` one is 0
 --     ended_by     the multiples (k + 1) × size that are no larger than z are those with k below natural z / size
 --     least_step_lem   least_step z size is the least k with z ≤ k × size
-use Rattle.std.specs.Prelude.{◌≡◌, refl, ◌↔◌, ◌⊎◌, true, ℕ, suc, ◌*◌, ◌-◌, ◌/◌, ◌≤◌, ◌<◌, ℤ, pos, negsuc, nat_abs, ◌+ℤ◌, ◌≤ℤ◌}
+use Rattle.std.specs.Prelude.{◌≡◌, refl, ◌↔◌, ◌⊎◌, true, ℕ, suc, ◌*◌, ◌-◌, ◌/◌, ◌≤◌, ◌<◌, ℤ, pos, negsuc, ◌+ℤ◌}
 use Rattle.std.proofs.Common.{inl, inr, ⊎_elim, suc-mul, div-lt_iff_lt-mul, arith}
 use Rattle.std.specs.Int.Signed.{lt_z, le_z}
 use Rattle.arithmetic.specs.Ints.{natural, least_step}
 use Rattle.arithmetic.proofs.Laws.Linear.{up, dn, ints, sum}
-
-pub natural-zero : (z : ℤ) → lt_z z (pos 0) ≡ true → natural z ≡ 0
-natural-zero (pos n) e = absurd (omega (arith, ints, e))
-natural-zero (negsuc n) e = refl
-
-pub natural-same : (z : ℤ) → pos 0 ≤ℤ z → nat_abs z ≡ natural z
-natural-same (pos n) h = refl
-natural-same (negsuc n) h = absurd h.le
 
 pub up-natural : (z : ℤ) → natural z ≡ up z
 up-natural (pos n) = refl

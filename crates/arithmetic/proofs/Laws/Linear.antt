@@ -5,7 +5,7 @@
 --     max-above, min-below    of the larger and the smaller, likewise
 --     max-is, min-is    std's `max` and `min` are these
 --     known, got       what is known of a signed number that fits its width, and of a call's result
---     fits32, fits64, wide, sum-wide, dif-wide, mid_fits, half-fits    what fits a width
+--     fits32, fits64, wide, half-fits    what fits a width
 --     of_z-eq           equality of numbers is that of their bits
 --     same_test, and_t, or_t, or_f    tests, compared and taken apart
 use Rattle.std.specs.Prelude.{◌≡◌, refl, Bool, true, false, not, cond, ◌&&◌, ◌||◌, ◌⊎◌, ℕ, zero, suc, ◌+◌, ◌*◌, ◌-◌, ◌≤◌, ◌<◌, ◌^◌, T, ltb}
@@ -287,13 +287,3 @@ or_f false t e = (refl, e)
 -- an i32 as an i64: its number, and the sum and the difference of two, fit
 pub wide : {z : ℤ} → SFits w32 z → SFits w64 z
 wide {z} f = fits64 z (omega (arith, known f))
-
-pub sum-wide : (a b : ℤ) → SFits w32 a → SFits w32 b → SFits w64 (a +ℤ b)
-sum-wide a b f g = fits64 (a +ℤ b) (omega (arith, sum a b, known f, known g))
-
-pub dif-wide : (a b : ℤ) → SFits w32 a → SFits w32 b → SFits w64 (a -ℤ b)
-dif-wide a b f g = fits64 (a -ℤ b) (omega (arith, dif a b, known f, known g))
-
--- the half of a sum of two i32 is an i32
-pub mid_fits : (a b : ℤ) → SFits w32 a → SFits w32 b → SFits w32 (shr_z (a +ℤ b) 2)
-mid_fits a b f g = fits32 (shr_z (a +ℤ b) 2) (omega (arith, sum a b, half-lo (a +ℤ b), half-hi (a +ℤ b), known f, known g))

@@ -1,5 +1,4 @@
 -- From the single operations to the records of a batch.
---     splits-refused, splits-made; said_refused, said_yes_lem, said_no     an answer as its record leaves it
 --     insert_done, remove_done, cleanup_done       a record by its operation's answer
 --     of_kind, other_kind      a record by its kind
 --     stepped      the row with a record's word
@@ -27,30 +26,6 @@ use Rattle.memory.specs.Lent.{Held, holding, world_of}
 use Rattle.tree.specs.Operations.{IsTree, CarriedOut}
 use Rattle.tree_cleanup.specs.Answers.{CleanedUp}
 use Rattle.batch_step.specs.Steps.{record_of, reply_word, RecordCarriedOut, Stepped}
-
--- ---- an answer, by what the code's match has told of it
-
-word-refused : {A : Type 0} (word : A → ℕ) (e : Refusal) → refused_word (number_of e) ≡ reply_word word (refusal_reply e)
-word-refused word e = by_number-map refused_word (λ k. k) (λ n. 8) e ∙ sym (by_number-map (reply_word word) refused too_many e)
-
-module _ (s : State) {a : Result Changed Refusal} where
-  pub splits-refused : {e : Refusal} {n : ℕ} → a ≡ Err e → n ≡ refused_word (number_of e)
-      → (n ≡ reply_word (λ m. m) (change_reply a)) × (s ≡ change_state s a)
-  splits-refused {e} is w = rw is (w ∙ word-refused (λ m. m) e, refl)
-
-  pub splits-made : {c : Changed} → a ≡ Ok c → (c.number ≡ reply_word (λ m. m) (change_reply a)) × (c.state ≡ change_state s a)
-  splits-made is = rw is (refl, refl)
-
-module _ (s : State) {a : Result (Option State) Refusal} where
-  pub said_refused : {e : Refusal} {n : ℕ} → a ≡ Err e → n ≡ refused_word (number_of e)
-      → (n ≡ reply_word yes_no (yes_no_reply a)) × (s ≡ yes_no_state s a)
-  said_refused {e} is w = rw is (w ∙ word-refused yes_no e, refl)
-
-  pub said_yes_lem : {s' : State} → a ≡ Ok (Some s') → (1 ≡ reply_word yes_no (yes_no_reply a)) × (s' ≡ yes_no_state s a)
-  said_yes_lem is = rw is (refl, refl)
-
-  pub said_no : a ≡ Ok None → (0 ≡ reply_word yes_no (yes_no_reply a)) × (s ≡ yes_no_state s a)
-  said_no is = rw is (refl, refl)
 
 -- ---- a record by its operation
 

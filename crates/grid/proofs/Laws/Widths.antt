@@ -1,7 +1,7 @@
 -- That what the code works out fits its machine types.
 --     less-touch, more-touch       a touch taken from a difference, or added to it
 --     less-fits, more-fits, rest-fits, more-rest_fits, and with a touch or none    a difference of two i32, and what it is divided after
---     along-fits, end_fits where the last window on an axis ends
+--     end_fits     where the last window on an axis ends
 --     windows-few          at most 4096 windows
 use Rattle.std.specs.Prelude.{◌≡◌, refl, Bool, true, false, cond, ℕ, ◌*◌, ◌-◌, ◌≤◌, ◌<◌, ℤ, pos, ◌+ℤ◌, ◌-ℤ◌}
 use Rattle.std.proofs.Common.{mul-le-mul, arith, SFits}
@@ -56,9 +56,6 @@ natural-small z f = omega (arith, up-natural z, known f)
 along-few : (number size : ℤ) → SFits w32 number → SFits w32 size → natural number * natural size ≤ 4611686014132420609
 along-few number size f g =
     mul-le-mul {n₁ = natural number} {m₁ = natural size} {n₂ = 2147483647} {m₂ = 2147483647} (natural-small number f) (natural-small size g)
-
-pub along-fits : (number size : ℤ) → SFits w32 number → SFits w32 size → SFits w64 (pos (natural number * natural size))
-along-fits number size f g = fits64 _ (omega (arith, along-few number size f g))
 
 pub end_fits : (first number size : ℤ) → SFits w32 first → SFits w32 number → SFits w32 size → SFits w64 (edge first (natural size) (natural number))
 end_fits first number size f g h =

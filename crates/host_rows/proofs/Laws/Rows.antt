@@ -1,6 +1,5 @@
 -- Laws of a state and an answer as rows.
 --     unfit, fit, twelve, two, twelve-two  what the code's test of the lengths says
---     answer-words     an answer row that is written
 --     keeps_state, kept_row    a row that is written with what it holds is as it was
 --     told, told_grid, told-patch  a rectangle by the four numbers of a call, a grid and a patch by the six
 use Rattle.std.specs.Prelude.{◌≡◌, refl, List, [], ◌∷◌, Bool, true, false, not, ℕ, eqb, ℤ, length, get_or, set}
@@ -37,11 +36,6 @@ module _ (state answer : List ℕ) {b : Bool} (test : b ≡ rows_fit state answe
   twelve-two n = (twelve n, two n)
 
 -- two stores fill an answer row
-pub answer-words : (row : List ℕ) (a b : ℕ) → length row ≡ 2 → set (set row 0 a) 1 b ≡ a ∷ b ∷ []
-answer-words [] a b e = absurd (omega arith)
-answer-words (x ∷ []) a b e = absurd (omega arith)
-answer-words (x ∷ y ∷ []) a b e = refl
-answer-words (x ∷ y ∷ z ∷ zs) a b e = absurd (omega arith)
 
 pub keeps_state : (row : List ℕ) → CountFits row 10 → row ≡ with_state (state_in row) row
 unfolding with_state state_in

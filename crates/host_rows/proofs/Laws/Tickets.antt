@@ -1,5 +1,4 @@
 -- Laws of a ticket as a row.
---     dot_stores, ticket_stores    the stores of a dot; with those of the count they fill the row
 --     ticket-back  a ticket's words are that ticket
 --     ticket-lengths       what the code's test of the lengths says
 use Rattle.std.specs.Prelude.{◌≡◌, refl, List, [], ◌∷◌, Bool, false, not, ◌&&◌, ℕ, eqb, length, set}
@@ -16,22 +15,6 @@ use Rattle.host_rows.specs.Tickets.{ticket_in, with_dot, ticket_words, ticket_fi
 use Rattle.host_rows.proofs.Laws.Rows.{fit}
 
 -- six stores, four of them by `word_of`
-pub dot_stores : (row : List ℕ) (d : Dot) {a b c e : ℕ} → let r = d.rect in
-    a ≡ word_of r.x1 → b ≡ word_of r.y1 → c ≡ word_of r.x2 → e ≡ word_of r.y2
-    → set (set (set (set (set (set row 0 d.id) 1 a) 2 b) 3 c) 4 e) 5 d.ink ≡ with_dot d row
-dot_stores row d p q r s = λ i. set (set (set (set (set (set row 0 d.id) 1 (p i)) 2 (q i)) 3 (r i)) 4 (s i)) 5 d.ink
-
-pub ticket_stores : (row : List ℕ) (t : Ticket) → length row ≡ 8 → with_wide t.changes (with_dot t.dot row) 6 ≡ ticket_words t
-ticket_stores [] t n = absurd (omega arith)
-ticket_stores (x₁ ∷ []) t n = absurd (omega arith)
-ticket_stores (x₁ ∷ x₂ ∷ []) t n = absurd (omega arith)
-ticket_stores (x₁ ∷ x₂ ∷ x₃ ∷ []) t n = absurd (omega arith)
-ticket_stores (x₁ ∷ x₂ ∷ x₃ ∷ x₄ ∷ []) t n = absurd (omega arith)
-ticket_stores (x₁ ∷ x₂ ∷ x₃ ∷ x₄ ∷ x₅ ∷ []) t n = absurd (omega arith)
-ticket_stores (x₁ ∷ x₂ ∷ x₃ ∷ x₄ ∷ x₅ ∷ x₆ ∷ []) t n = absurd (omega arith)
-ticket_stores (x₁ ∷ x₂ ∷ x₃ ∷ x₄ ∷ x₅ ∷ x₆ ∷ x₇ ∷ []) t n = absurd (omega arith)
-ticket_stores (x₁ ∷ x₂ ∷ x₃ ∷ x₄ ∷ x₅ ∷ x₆ ∷ x₇ ∷ x₈ ∷ []) t n = refl
-ticket_stores (x₁ ∷ x₂ ∷ x₃ ∷ x₄ ∷ x₅ ∷ x₆ ∷ x₇ ∷ x₈ ∷ y ∷ ys) t n = absurd (omega arith)
 
 -- the coordinates are i32
 pub record Fits32 (r : AABB) : Type 0 where

@@ -2,22 +2,25 @@
 --     exported_other       rows of another length
 --     exported_changed, exported_read      THE PATTERN: a call that may change the state, and one that reads
 --     patch_bad, patch-good        refusal 13, and any other patch
---     check_other, check_row, make_other, make-row     the same for the check and make
-use Rattle.std.specs.Prelude.{◌≡◌, refl, List, [], Bool, true, false, not, ℕ, ℤ, length, Result}
-use Rattle.std.proofs.Common.{sym, ◌∙◌, subst}
-use Rattle.arithmetic.proofs.Laws.Tests.{true_false}
+--     check_other, check_row, check_refused, make_other, make-row      the same for the check and make
+use Rattle.std.specs.Prelude.{◌≡◌, refl, List, [], Bool, true, false, not, ℕ, ◌≤◌, ℤ, length, Result}
+use Rattle.std.proofs.Common.{sym, ◌∙◌, subst, inl, inr, arith}
+use Rattle.arithmetic.proofs.Laws.Tests.{by_bool, true_false}
+use Rattle.geometry.specs.Settings.{in_range}
 use Rattle.geometry.specs.declared.settings.Settings.{Settings}
 use Rattle.model.specs.declared.State.{State}
 use Rattle.model.specs.declared.patch.Patch.{Patch}
 use Rattle.model.specs.Patch.{patch_fits, LayPatch}
 use Rattle.model.specs.declared.refusal.Refusal.{Refusal}
+use Rattle.model.specs.declared.refusal.Refusal.TheVariants.{ShortRow}
+use Rattle.model.specs.Refusals.{number_of}
 use Rattle.model.specs.Answers.{make_reply, make_state}
-use Rattle.model.specs.Layout.{World, world}
+use Rattle.model.specs.Layout.{World, world, lengths_right}
 use Rattle.model.specs.Calls.{Reply, Make}
 use Rattle.memory.specs.Lent.{Held, holding}
 use Rattle.tree_check.specs.Checks.{Checked}
 use Rattle.host_rows.specs.Rows.{CountFits, settings_in, state_in, rows_fit}
-use Rattle.host_rows.specs.Answers.{result_of, state_row, number, Out, made_row}
+use Rattle.host_rows.specs.Answers.{refused_result, result_of, state_row, number, Out, made_row}
 use Rattle.host_rows.proofs.Laws.Rows.{unfit, fit, kept_row}
 use Rattle.krakvinge.specs.Exports.{Lent, world_of, Exported, LaysPatch, Makes, Checks}
 
@@ -70,6 +73,20 @@ module _ {p : Patch} {l : Lent} {b : Bool} (test : b ≡ patch_fits p) where
 
 -- ---- the check and make
 
+-- the check never answers a short row, so what is returned is the refusal's number
+check_few : {s : State} {h : Held} {marks marks' : List ℕ} {answer : ℕ} → Checked s h marks marks' answer → answer ≤ 3
+check_few {s} {h} {marks} c =
+    by_bool (lengths_right (world s h.nodes h.dots h.rects marks))
+    (λ long.
+    by_bool (in_range s.settings)
+    (λ accepted. elim (c.checked long accepted).1 [ inl is_tree ↦ omega (arith, is_tree.0) | inr no_tree ↦ omega (arith, no_tree.0) ])
+    (λ accepted. omega (arith, c.bad_settings long accepted)))
+    (λ long. omega (arith, c.bad_length long))
+
+few_told : (e : Refusal) → number_of e ≤ 3 → refused_result e ≡ number_of e
+few_told (ShortRow n) few = absurd (omega arith)
+few_told _ few = refl
+
 module _ (row nodes dots : List ℕ) (rects : List ℤ) (marks : List ℕ) where
   pub check_other : (length row ≡ 12 → ⊥) → Checks row nodes dots rects marks marks 1
   check_other ne = record { other_length = λ _. (refl, refl); carried_out = λ e. absurd (ne e) }
@@ -78,6 +95,11 @@ module _ (row nodes dots : List ℕ) (rects : List ℤ) (marks : List ℕ) where
       → Checks row nodes dots rects marks marks' result
   check_row s marks' result twelve e c =
       record { other_length = λ ne. absurd (ne twelve); carried_out = λ _. subst (λ (t : State). Checked t (holding nodes dots rects) marks marks' result) e c }
+
+  pub check_refused : (s : State) (marks' : List ℕ) (e : Refusal) (result : ℕ) → length row ≡ 12 → s ≡ state_in row
+      → Checked s (holding nodes dots rects) marks marks' (number_of e) → result ≡ refused_result e → Checks row nodes dots rects marks marks' result
+  check_refused s marks' e result twelve is c told =
+      check_row s marks' result twelve is (rw (told ∙ few_told e (check_few c)) c)
 
   pub make_other : (length row ≡ 12 → ⊥) → Makes row nodes dots rects marks row nodes dots rects marks 1
   make_other ne = record { other_length = λ _. (refl, refl, refl, refl, refl, refl); carried_out = λ e. absurd (ne e) }

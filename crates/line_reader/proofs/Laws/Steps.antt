@@ -1,11 +1,10 @@
 -- Laws of the steps.
 --     keep_all-take, kept-bytes    more bytes of a line
 --     found-line, found-part       the bytes to the end of the line, or to their own
---     line-fits, part-fits         the bytes at the row's front lie in the row
---     line-inside, line-less       the bytes after a line, and that they are fewer
+--     line-inside  the bytes after a line
 --     finds-reads  THE LINK: what a caller makes of an answer is what the reader does, for any turn
 --     finds_fixed  an answer and the row are fixed by what was given
-use Rattle.std.specs.Prelude.{◌≡◌, refl, List, [], ◌∷◌, ◌++◌, Bool, true, false, ℕ, zero, suc, ◌+◌, ◌-◌, ◌≤◌, ◌<◌, min, eqb, ltb, Some, None}
+use Rattle.std.specs.Prelude.{◌≡◌, refl, List, [], ◌∷◌, ◌++◌, Bool, true, false, ℕ, zero, suc, ◌+◌, ◌-◌, ◌≤◌, ◌<◌, min, eqb, ltb, Option, Some, None}
 use Rattle.std.specs.Prelude.{length, take, drop, get_or}
 use Rattle.std.proofs.Common.{ap, ap₂, sym, ◌∙◌, arith, append-nil, append_assoc, length-append, length-take, length-drop, take-append-drop}
 use Rattle.std.proofs.Common.{length-take-le, take_all, drop-drop, ltb-false}
@@ -18,7 +17,6 @@ use Rattle.std.proofs.lemmas.Slice.{take-put_mid, drop-put_mid}
 use borrow.Rule.Slice.PartMut.{put_mid}
 use Rattle.arithmetic.proofs.Laws.Tests.{true_false, by_bool}
 use Rattle.line_reader.specs.declared.Found.{Found}
-use Rattle.line_reader.specs.declared.Found.TheVariants as found
 use Rattle.line_reader.specs.Cut.{keep, keep_all, Progress, progress, read_bytes, Scan, whole, part, scan}
 use Rattle.line_reader.proofs.Laws.Cut.{keep-take, after_scan, read-scan}
 use Rattle.line_reader.specs.Steps.{Kept, GoesOn, scan_of, Finds}
@@ -77,7 +75,7 @@ no_lf rest none k h =
 
 module _ {row₀ bytes rest row : List ℕ} {kept at n : ℕ} (here : rest ≡ drop at bytes) (inside : at ≤ length bytes) where
   pub found-line : {end : ℕ} → position is_lf rest ≡ Some end → Kept row₀ kept (take end rest) row n
-      → Finds row₀ kept bytes at row (found.Line n (at + end + 1))
+      → Finds row₀ kept bytes at row (record { count = n; next = Some (at + end + 1) })
   found-line {end} e k =
       let first = position-Some is_lf rest end 0 e in
       let after : drop (suc end) rest ≡ drop (at + end + 1) bytes =
@@ -90,7 +88,7 @@ module _ {row₀ bytes rest row : List ℕ} {kept at n : ℕ} (here : rest ≡ d
             ∙ ap₂ whole (sym k.holds) after;
       }
 
-  pub found-part : position is_lf rest ≡ None → Kept row₀ kept rest row n → Finds row₀ kept bytes at row (found.More n)
+  pub found-part : position is_lf rest ≡ None → Kept row₀ kept rest row n → Finds row₀ kept bytes at row (record { count = n; next = None })
   found-part e k = record {
     within = k.within;
     rest = k.rest;
@@ -101,30 +99,27 @@ module _ {row₀ bytes rest row : List ℕ} {kept at n : ℕ} (here : rest ≡ d
 
 -- ---- what a caller makes of an answer: a turn with the line at the row's front, or bytes that stay there
 
-module _ {row₀ bytes row : List ℕ} {kept at : ℕ} {r : Found} where
-  pub line-fits : {n next : ℕ} → r ≡ found.Line n next → Finds row₀ kept bytes at row r → n ≤ length row
-  line-fits e f = (rw e at f).within
+module _ {row₀ bytes row : List ℕ} {kept at : ℕ} {r : Found} {next : ℕ} (e : r.next ≡ Some next) (f : Finds row₀ kept bytes at row r) where
+  on : GoesOn bytes at (Some next)
+  on = rw e at f.goes_on
 
-  pub part-fits : {n : ℕ} → r ≡ found.More n → Finds row₀ kept bytes at row r → n ≤ length row
-  part-fits e f = (rw e at f).within
-
-  pub line-inside : {n next : ℕ} → r ≡ found.Line n next → Finds row₀ kept bytes at row r → next ≤ length bytes
-  line-inside {n} {next} e f = let goes_on : GoesOn bytes at (found.Line n next) = (rw e at f).goes_on in goes_on.1
-
-  pub line-less : {n next : ℕ} → r ≡ found.Line n next → Finds row₀ kept bytes at row r → length bytes - next < length bytes - at
-  line-less {n} {next} e f = let goes_on : GoesOn bytes at (found.Line n next) = (rw e at f).goes_on in omega (arith, goes_on)
+  pub line-inside : next ≤ length bytes
+  line-inside = on.1
 
 module _ {S : Type 0} (turn : S → List ℕ → S) (s : S) where
-  abbrev pub after_found : ℕ → List ℕ → List ℕ → Found → Progress S
-  after_found room bytes row (found.Line n next) = read_bytes turn room (progress (turn s (take n row)) []) (drop next bytes)
-  after_found room bytes row (found.More n) = progress s (take n row)
+  abbrev pub after_found : ℕ → List ℕ → List ℕ → Option ℕ → Progress S
+  after_found room bytes front (Some next) = read_bytes turn room (progress (turn s front) []) (drop next bytes)
+  after_found room bytes front None = progress s front
+
+  scan-found : (room : ℕ) (bytes front : List ℕ) (next : Option ℕ) → after_scan turn room s (scan_of front bytes next) ≡ after_found room bytes front next
+  scan-found room bytes front (Some next) = refl
+  scan-found room bytes front None = refl
 
   pub finds-reads : (row₀ : List ℕ) (kept : ℕ) (bytes : List ℕ) (at : ℕ) (row : List ℕ) (r : Found) → Finds row₀ kept bytes at row r
-      → read_bytes turn (length row₀) (progress s (take kept row₀)) (drop at bytes) ≡ after_found (length row₀) bytes row r
-  finds-reads row₀ kept bytes at row (found.Line n next) f =
+      → read_bytes turn (length row₀) (progress s (take kept row₀)) (drop at bytes) ≡ after_found (length row₀) bytes (take r.count row) r.next
+  finds-reads row₀ kept bytes at row r f =
       read-scan turn (length row₀) s (take kept row₀) (drop at bytes) ∙ ap (after_scan turn (length row₀) s) f.scans
-  finds-reads row₀ kept bytes at row (found.More n) f =
-      read-scan turn (length row₀) s (take kept row₀) (drop at bytes) ∙ ap (after_scan turn (length row₀) s) f.scans
+      ∙ scan-found (length row₀) bytes (take r.count row) r.next
 
 -- ---- nothing is left open
 
@@ -151,22 +146,29 @@ module _ (row row' : List ℕ) {n m : ℕ} (front : take n row ≡ take m row') 
       ∙ ap₂ (λ (l k : List ℕ). l ++ k) front (rest ∙ ap (λ (k : ℕ). drop k row₀) same_count ∙ sym rest')
       ∙ take-append-drop m row'
 
-module _ {row₀ bytes row row' : List ℕ} {kept at : ℕ} where
-  same-scan : {r r' : Found} → Finds row₀ kept bytes at row r → Finds row₀ kept bytes at row' r' → scan_of row bytes r ≡ scan_of row' bytes r'
-  same-scan f g = sym f.scans ∙ g.scans
+scanned-front : (front bytes : List ℕ) (next : Option ℕ) → scanned (scan_of front bytes next) ≡ front
+scanned-front front bytes (Some next) = refl
+scanned-front front bytes None = refl
 
+-- the same place after the line, or none
+same_next : (bytes front front' : List ℕ) (at : ℕ) (next next' : Option ℕ) → GoesOn bytes at next → GoesOn bytes at next'
+    → scan_of front bytes next ≡ scan_of front' bytes next' → next ≡ next'
+same_next bytes front front' at (Some next) (Some next') f g e =
+    let after : length (drop next bytes) ≡ length (drop next' bytes) = ap (λ (x : Scan). length (unread x)) e in
+    let place : next ≡ next' = omega (arith, f, g, length-drop next bytes, length-drop next' bytes) in
+    ap Some place
+same_next bytes front front' at None None f g e = refl
+same_next bytes front front' at (Some next) None f g e = true_false (ap is_whole e)
+same_next bytes front front' at None (Some next') f g e = true_false (ap is_whole (sym e))
+
+module _ {row₀ bytes row row' : List ℕ} {kept at : ℕ} where
   pub finds_fixed : (r r' : Found) → Finds row₀ kept bytes at row r → Finds row₀ kept bytes at row' r' → (row ≡ row') × (r ≡ r')
-  finds_fixed (found.Line n next) (found.Line m next') f g =
-      let front : take n row ≡ take m row' = ap scanned (same-scan f g) in
-      let after : length (drop next bytes) ≡ length (drop next' bytes) = ap (λ (x : Scan). length (unread x)) (same-scan f g) in
-      let place : next ≡ next' = omega (arith, f.goes_on, g.goes_on, length-drop next bytes, length-drop next' bytes) in (
+  finds_fixed r r' f g =
+      let scans = sym f.scans ∙ g.scans in
+      let front : take r.count row ≡ take r'.count row' =
+      sym (scanned-front (take r.count row) bytes r.next) ∙ ap scanned scans ∙ scanned-front (take r'.count row') bytes r'.next in
+      let count = same_count row row' front f.within g.within in
+      let next = same_next bytes _ _ at r.next r'.next f.goes_on g.goes_on scans in (
         same_row row row' front f.within g.within row₀ f.rest g.rest,
-        ap₂ found.Line (same_count row row' front f.within g.within) place,
+        ap₂ (λ (n : ℕ) (m : Option ℕ). record { count = n; next = m }) count next,
       )
-  finds_fixed (found.More n) (found.More m) f g =
-      let front : take n row ≡ take m row' = ap scanned (same-scan f g) in (
-        same_row row row' front f.within g.within row₀ f.rest g.rest,
-        ap found.More (same_count row row' front f.within g.within),
-      )
-  finds_fixed (found.Line n next) (found.More m) f g = true_false (ap is_whole (same-scan f g))
-  finds_fixed (found.More n) (found.Line m next) f g = true_false (ap is_whole (sym (same-scan f g)))

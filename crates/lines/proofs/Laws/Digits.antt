@@ -1,7 +1,7 @@
 -- Laws of decimal text.
 --     digits-few, digits_more                  the two cases of printing
 --     decimal-std                              std's decimal text, which itoa prints, is the same
---     digits-length, digits-some, decimal-two  how many there are; two at most of a number below 100
+--     digits-length, decimal-two  how many there are; two at most of a number below 100
 --     digits-plain                             each byte is a digit's code or above
 --     digits_value                             added up, the digits give the number
 --     natural-part                             a part is read exactly if it is a number's text
@@ -48,12 +48,6 @@ digits-length zero n = omega arith
 digits-length (suc k) n =
     by_bool (ltb n 10) (λ t. rw t (omega arith))
     (λ f. rw f (simp length-append (omega (arith, digits-length k (n / 10)))))
-
-pub digits-some : (places n : ℕ) → digits (suc places) n ≡ [] → ⊥
-unfolding digits
-digits-some k n e =
-    by_bool (ltb n 10) (λ t. omega (arith, ap length (rw t at e)))
-    (λ f. omega (arith, simp length-append at (ap length (rw f at e))))
 
 pub decimal-two : (n : ℕ) → n < 100 → length (decimal n) ≤ 2
 decimal-two n h =

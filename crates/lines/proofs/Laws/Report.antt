@@ -2,12 +2,15 @@
 --     field_two                            the field of a number below 100 has three bytes at most
 --     put-line, put-total_line             a line from its parts
 --     row-none, row_more, row_end          no window's line, one more, where they end at most
+--     cut_length                           the counts of a row by themselves
 --     rows_none, rows_more, rows_end       the same of rows
 --     row_below                            a row's counts lie within those of all rows
 --     report-written                       the report from its lines
 --     report-length                        how long a report is at most
-use Rattle.std.specs.Prelude.{◌≡◌, List, [], ◌∷◌, ◌++◌, ℕ, zero, suc, ◌+◌, ◌*◌, ◌≤◌, ◌<◌, pos, length, get_or}
-use Rattle.std.proofs.Common.{ap, append-nil, suc-mul, mul_comm, mul-le-mul_left, arith, add-one, length-append}
+use Rattle.std.specs.Prelude.{◌≡◌, List, [], ◌∷◌, ◌++◌, ℕ, zero, suc, ◌+◌, ◌*◌, ◌≤◌, ◌<◌, pos, length, get_or, take, drop}
+use Rattle.std.proofs.Common.{ap, ◌∙◌, append-nil, suc-mul, mul_comm, mul-le-mul_left, arith, add-one, length-append}
+use Rattle.std.proofs.lemmas.List.{get_or-take, get_or-drop, length-take-le, length-drop}
+use Rattle.model.proofs.Laws.Lists.{join_below_ext}
 use Rattle.lines.specs.Text.{decimal, fields}
 use Rattle.lines.specs.Reading.{Put, output, Written}
 use Rattle.lines.specs.Report.{window_line, window_row, window_lines, total_line, report}
@@ -53,11 +56,11 @@ pub row-none : (out counts : List ℕ) (at row first : ℕ) → Put out at (wind
 unfolding window_row
 row-none out counts at row first = put-none out at
 
-pub row_more : {out₀ out out' : List ℕ} {at next next' : ℕ} (column row : ℕ) (counts : List ℕ) (first : ℕ)
-    → Put out₀ at (window_row column row counts first) out next → Put out next (window_line column row (get_or counts (first + column) 0)) out' next'
-    → Put out₀ at (window_row (column + 1) row counts first) out' next'
+pub row_more : {out₀ out out' : List ℕ} {at next next' place : ℕ} (column row : ℕ) (counts : List ℕ) (first : ℕ)
+    → place ≡ first + column → Put out₀ at (window_row column row counts first) out next
+    → Put out next (window_line column row (get_or counts place 0)) out' next' → Put out₀ at (window_row (column + 1) row counts first) out' next'
 unfolding window_row
-row_more column row counts first p q = rw add-one (put_then p q)
+row_more column row counts first e p q = rw add-one (put_then p (rw e at q))
 
 row-length : (columns row : ℕ) (counts : List ℕ) (first : ℕ) → columns ≤ 64 → row < 64 → length (window_row columns row counts first) ≤ 17 * columns
 unfolding window_row
@@ -71,17 +74,37 @@ pub row_end : {out₀ out : List ℕ} {at next : ℕ} (columns row : ℕ) (count
     → Put out₀ at (window_row columns row counts first) out next → next ≤ at + 17 * columns
 row_end columns row counts first h k p = omega (arith, p.ends, row-length columns row counts first h k)
 
+-- the counts of a row by themselves
+row-cut : (columns row first : ℕ) (counts : List ℕ)
+    → window_row columns row (take columns (drop first counts)) 0 ≡ window_row columns row counts first
+unfolding window_row
+row-cut columns row first counts =
+    let rest = drop first counts in
+    join_below_ext columns (λ column. window_line column row (get_or (take columns rest) (0 + column) 0))
+    (λ column. window_line column row (get_or counts (first + column) 0))
+    (λ column h.
+    let same : first + (0 + column) ≡ first + column = omega arith in
+    ap (window_line column row)
+    (get_or-take columns rest (0 + column) 0 (omega arith) ∙ get_or-drop first counts (0 + column) 0 ∙ ap (λ i. get_or counts i 0) same))
+
+pub cut_length : (columns first : ℕ) (counts : List ℕ) → first + columns ≤ length counts → length (take columns (drop first counts)) ≡ columns
+cut_length columns first counts h = length-take-le columns (drop first counts) (omega (arith, length-drop first counts))
+
 -- ---- the rows
 
 pub rows_none : (out counts : List ℕ) (columns : ℕ) → Put out 0 (window_lines columns 0 counts) out 0
 unfolding window_lines
 rows_none out counts columns = put-none out 0
 
-pub rows_more : {out₀ out out' : List ℕ} {at next next' first : ℕ} (columns row : ℕ) (counts : List ℕ) → first ≡ row * columns
-    → Put out₀ at (window_lines columns row counts) out next → Put out next (window_row columns row counts first) out' next'
+pub rows_more : {out₀ out out' : List ℕ} {at next next' first width : ℕ} (columns row : ℕ) (counts : List ℕ) → first ≡ row * columns
+    → width ≡ columns → first + columns ≤ length counts
+    → Put out₀ at (window_lines columns row counts) out next
+    → (let cut = take width (drop first counts) in Put out next (window_row (length cut) row cut 0) out' next')
     → Put out₀ at (window_lines columns (row + 1) counts) out' next'
 unfolding window_lines
-rows_more columns row counts e p q = rw add-one (put_then p (rw e at q))
+rows_more {next = next} {first = first} columns row counts e w h p q =
+    let alone = put_is (row-cut columns row first counts) (rw (cut_length columns first counts h) at rw w at q) in
+    rw add-one (put_then p (rw e at alone))
 
 rows_length : (columns rows : ℕ) (counts : List ℕ) → columns ≤ 64 → rows ≤ 64 → length (window_lines columns rows counts) ≤ 17 * (rows * columns)
 unfolding window_lines

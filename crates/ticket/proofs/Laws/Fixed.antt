@@ -22,10 +22,8 @@ use Rattle.lines.proofs.Laws.Texts.{line-one}
 use Rattle.lines.proofs.Laws.Grids.{grid_line_one}
 use Rattle.lines.specs.declared.line.Call.TheVariants as call
 use Rattle.lines.specs.declared.line.Call.{Call}
-use Rattle.ticket.specs.declared.Start.{Start}
-use Rattle.ticket.specs.declared.Start.TheVariants as start
 use Rattle.ticket.specs.Ticket.{reply_line, refusal_line, listing, plain_dot, InsertLine, Nine, LineAnswer, Answered}
-use Rattle.ticket.specs.First.{start_of, MakeLine, NoStart, FirstAnswer, Started}
+use Rattle.ticket.specs.First.{Start, going, ended, start_of, MakeLine, NoStart, FirstAnswer, Started}
 use Rattle.ticket.specs.Report.{GridAnswered, TurnAnswer, Turned}
 
 -- w is a tree, or it is none
@@ -93,10 +91,10 @@ module _ (w : World) (row input : List ℕ) (tree? : TreeOrNone w) (r₁ r₂ : 
       → (r₁ ≡ r₂) × (w₁ ≡ w₂) × (row₁ ≡ row₂) × (o ≡ p)
   turn_fixed (Some g) m n =
       let same = grid_fixed g m.1 n.1 in
-      (m.0 ∙ ap (λ (x : Output). start.Ended x.next) same.2 ∙ sym n.0, same.0, same.1, same.2)
+      (m.0 ∙ ap (λ (x : Output). ended x.next) same.2 ∙ sym n.0, same.0, same.1, same.2)
   turn_fixed None m n =
       let same = answered_fixed w row input tree? w₁ w₂ row₁ row₂ o p before m.1 n.1 in
-      (m.0 ∙ (λ i. start.Going (same.0 i).state (same.2 i).next) ∙ sym n.0, same.0, same.1, same.2)
+      (m.0 ∙ (λ i. going (same.0 i).state (same.2 i).next) ∙ sym n.0, same.0, same.1, same.2)
 
   pub turned_fixed : Turned w row input r₁ w₁ row₁ o → Turned w row input r₂ w₂ row₂ p → (r₁ ≡ r₂) × (w₁ ≡ w₂) × (row₁ ≡ row₂) × (o ≡ p)
   turned_fixed m n =
@@ -107,7 +105,7 @@ module _ (w : World) (r₁ r₂ : Start) (w₁ w₂ : World) (o p : Output) (bef
   no_start : NoStart w r₁ w₁ o → NoStart w r₂ w₂ p → (r₁ ≡ r₂) × (w₁ ≡ w₂) × (o ≡ p)
   no_start m n =
       let outs = written_fixed o p (refusal_line 9) before m.line n.line in
-      (m.ends ∙ ap (λ (x : Output). start.Ended x.next) outs ∙ sym n.ends, m.kept ∙ sym n.kept, outs)
+      (m.ends ∙ ap (λ (x : Output). ended x.next) outs ∙ sym n.ends, m.kept ∙ sym n.kept, outs)
 
   make-line : (s : Settings) → MakeLine w s r₁ w₁ o → MakeLine w s r₂ w₂ p → (r₁ ≡ r₂) × (w₁ ≡ w₂) × (o ≡ p)
   make-line s m n =

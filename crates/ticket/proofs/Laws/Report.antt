@@ -1,18 +1,16 @@
 -- The answers to a later line of gridreport, case by case, and what they say of the tree.
 --     grid_refused, grid_reported   the report's answer, and the line that was written for it
 --     report-asks  what the writing of a report asks, of an accepted one
---     turn_grid, turn_other        a grid's line, and any other
 --     report-lines THE LAW: the bytes of an accepted report are the lines of the grid's windows on the tree, and their total
 --     grid_nine    a ticket's answer to a grid's line
-use Rattle.std.specs.Prelude.{◌≡◌, refl, List, ◌++◌, Option, Some, None, Result, Ok, Err, ℕ, ◌+◌, ◌*◌, ◌^◌, ◌≤◌, ◌<◌, ℤ, length, get_or, drop}
+use Rattle.std.specs.Prelude.{◌≡◌, List, ◌++◌, Option, Some, None, Result, Ok, Err, ℕ, ◌+◌, ◌*◌, ◌^◌, ◌≤◌, ◌<◌, length, get_or, drop}
 use Rattle.std.proofs.Common.{ap, ap₂, subst, subst₂, sym, ◌∙◌, mul_comm, arith}
 use Rattle.grid.specs.declared.grid.Grid.{Grid}
 use Rattle.grid.specs.Grids.{columns_of, rows_of, windows}
 use Rattle.grid.proofs.Laws.Windows.{sizes}
-use Rattle.model.specs.declared.State.{State}
 use Rattle.model.specs.Lists.{join_over}
 use Rattle.model.specs.Shapes.{Shape}
-use Rattle.model.specs.Layout.{World, world, Holds}
+use Rattle.model.specs.Layout.{World, Holds}
 use Rattle.model.specs.Grid.{WindowLine, window_count, grid_counts, grid_lines, grid_total}
 use Rattle.model.specs.declared.refusal.Refusal.{Refusal}
 use Rattle.model.specs.Refusals.{number_of, refusal_reply}
@@ -22,20 +20,19 @@ use Rattle.model.proofs.Laws.Lists.{join_below_ext}
 use Rattle.model.proofs.Laws.Grid.{counts-cell, join-windows}
 use Rattle.model.proofs.Laws.Reports.{grid_sized, grid_room, grid_small, grid_exit}
 use Rattle.lines.specs.Report.{window_line, window_row, window_lines, total_line, report}
-use Rattle.lines.specs.Reading.{Output, output, Written}
+use Rattle.lines.specs.Reading.{Output, Written}
 use Rattle.lines.specs.Grids.{GridLineOf}
 use Rattle.lines.proofs.Laws.Grids.{grid_unreadable}
 use Rattle.lines.proofs.Laws.Texts.{line-one}
 use Rattle.lines.specs.declared.line.Call.{Call}
-use Rattle.ticket.specs.declared.Start.TheVariants as start
 use Rattle.ticket.specs.Ticket.{refusal_line, Nine, LineAnswer, Answered}
 use Rattle.ticket.proofs.Laws.Replies.{refused-line}
-use Rattle.ticket.specs.Report.{line_text, report_lines, GridAnswered, Turned}
+use Rattle.ticket.specs.Report.{line_text, report_lines, GridAnswered}
 
 module _ {w w' : World} {g : Grid} {row row' : List ℕ} {out : Output} {a : Result ℕ Refusal} where
-  pub grid_refused : {e : Refusal} {k : ℕ} → a ≡ Err e → k ≡ number_of e → GridReport w g row w' row' (number_reply a) → Written out (refusal_line k)
+  pub grid_refused : {e : Refusal} → a ≡ Err e → GridReport w g row w' row' (number_reply a) → Written out (refusal_line (number_of e))
       → GridAnswered w g row w' row' out
-  grid_refused {e} is n h l = record { reply = refusal_reply e; call = rw is at h; line = refused-line (report (columns_of g) (rows_of g) row') e n l }
+  grid_refused {e} is h l = record { reply = refusal_reply e; call = rw is at h; line = refused-line (report (columns_of g) (rows_of g) row') e l }
 
   -- c and r: the columns and the rows, as the code has them
   pub grid_reported : {total c r : ℕ} → a ≡ Ok total → GridReport w g row w' row' (number_reply a) → c ≡ columns_of g → r ≡ rows_of g
@@ -57,20 +54,6 @@ report-asks w g row w' row' {total = total} {c} {r} e h across down same room =
       (omega (arith, z.few_columns), omega (arith, z.few_rows), omega arith, omega (arith, grid_small g w row w' row' total said)),
       omega arith,
     )
-
--- ---- a line
-
-module _ {s : State} {nodes dots : List ℕ} {rects : List ℤ} {marks row input : List ℕ} {l : Option Grid} (is : GridLineOf input l)
-    {marks' row' out out' : List ℕ} {next : ℕ} where
-  pub turn_grid : {g : Grid} → l ≡ Some g
-      → GridAnswered (world s nodes dots rects marks) g row (world s nodes dots rects marks') row' (output out out' next)
-      → Turned (world s nodes dots rects marks) row input (start.Ended next) (world s nodes dots rects marks') row' (output out out' next)
-  turn_grid {g} e a = record { says = Some g; is = rw e at is; answer = (refl, a) }
-
-  pub turn_other : {s' : State} {nodes' dots' : List ℕ} {rects' : List ℤ} → l ≡ None
-      → Answered (world s nodes dots rects marks) row input (world s' nodes' dots' rects' marks') row' (output out out' next)
-      → Turned (world s nodes dots rects marks) row input (start.Going s' next) (world s' nodes' dots' rects' marks') row' (output out out' next)
-  turn_other e a = record { says = None; is = rw e at is; answer = (refl, a) }
 
 -- a grid is no call: refusal 9, and nothing is changed
 pub grid_nine : (w : World) (g : Grid) (row input : List ℕ) (w' : World) (row' : List ℕ) (out : Output) → GridLineOf input (Some g)

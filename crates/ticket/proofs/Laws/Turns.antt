@@ -1,71 +1,37 @@
 -- A turn, by the cases of the code, and turns one after another.
---     goes_on, goes_end    what comes of an answer that a program goes on or ends with
---     turn_dotcheck, turn_gridreport       a later line, by the program
---     turn-first, turn-later, turn-ended, turn-failed      a turn, by the phase
+--     goes_on, goes_end    the phase after an answer that was written
 --     turns-append, turns_more     lines and then others; a line more
 --     turns-over   at the end, and after an error, any lines change nothing
 --     never_first  no line leads back to the first
 --     turns-told   a line is told by its first 81 bytes: a longer one than 80 is unreadable either way (§13.2)
-use Rattle.std.specs.Prelude.{◌≡◌, refl, List, [], ◌∷◌, ◌++◌, map, ℕ, ◌≤◌, ℤ, length, take, Option, Some, None}
+use Rattle.std.specs.Prelude.{◌≡◌, refl, List, [], ◌∷◌, ◌++◌, map, ℕ, ◌≤◌, length, take, Option, Some, None}
 use Rattle.std.proofs.Common.{ap, subst, arith}
 use Rattle.std.proofs.Math.Decide.{dec_lt}
 use Rattle.model.specs.declared.State.{State}
-use Rattle.model.specs.Layout.{World, world}
+use Rattle.model.specs.Layout.{World}
 use Rattle.model.proofs.Laws.Sums.{by_dec}
 use Rattle.line_reader.proofs.Laws.Cut.{short-kept, long_kept}
-use Rattle.lines.specs.Reading.{Output, output}
+use Rattle.lines.specs.Reading.{Output}
 use Rattle.lines.specs.Lines.{LineOf}
 use Rattle.lines.specs.Grids.{GridLineOf}
 use Rattle.lines.specs.declared.line.Call.{Call}
 use Rattle.grid.specs.declared.grid.Grid.{Grid}
-use Rattle.ticket.specs.declared.Start.{Start}
-use Rattle.ticket.specs.declared.Start.TheVariants as start
-use Rattle.ticket.specs.First.{end_of, after_start, Started}
+use Rattle.ticket.specs.First.{Start, Started}
 use Rattle.ticket.specs.Ticket.{Answered}
 use Rattle.ticket.specs.Report.{TurnAnswer, Turned}
 use Rattle.ticket.specs.declared.Program.{Program}
 use Rattle.ticket.specs.declared.Program.TheVariants as program
 use Rattle.ticket.specs.declared.Phase.{Phase}
 use Rattle.ticket.specs.declared.Phase.TheVariants as phase
-use Rattle.ticket.specs.Turns.{Lent, lent, phase_of, GoesTo, leads_on, breaks_off, LaterAnswer, Turn, Turns, over, turned}
+use Rattle.ticket.specs.Turns.{Lent, phase_of, GoesTo, leads_on, breaks_off, LaterAnswer, Turn, Turns, over, turned}
 
 -- ---- one line
 
-pub goes_on : {r : Start} {s : State} {n : ℕ} {q : Phase} → r ≡ start.Going s n → GoesTo (phase.Going s) q → GoesTo (phase_of r) q
-goes_on e g = rw e g
+pub goes_on : {to : Option State} {s : State} → to ≡ Some s → GoesTo (phase_of to) (phase.Going s)
+goes_on e = rw e leads_on
 
-pub goes_end : {r : Start} {n : ℕ} {q : Phase} → r ≡ start.Ended n → GoesTo phase.Ended q → GoesTo (phase_of r) q
-goes_end e g = rw e g
-
-module _ {p : Program} {q : Phase} {nodes dots marks row out line nodes' dots' marks' out' : List ℕ} {rects rects' : List ℤ} where
-  pub turn_dotcheck : {s s' : State} {row' : List ℕ} {next : ℕ} → p ≡ program.Dotcheck
-      → Answered (world s nodes dots rects marks) row line (world s' nodes' dots' rects' marks') row' (output out out' next)
-      → GoesTo (phase.Going s') q
-      → Turn p (phase.Going s) (lent nodes dots rects marks row out) line q (lent nodes' dots' rects' marks' row' out')
-  turn_dotcheck {s' = s'} {next = next} e a g = record { taken = record { says = start.Going s' next; answer = rw e (refl, a); goes = g } }
-
-  pub turn_gridreport : {s : State} {r : Start} {row' : List ℕ} → p ≡ program.Gridreport
-      → Turned (world s nodes dots rects marks) row line r (world (after_start s r) nodes' dots' rects' marks') row' (output out out' (end_of r))
-      → GoesTo (phase_of r) q
-      → Turn p (phase.Going s) (lent nodes dots rects marks row out) line q (lent nodes' dots' rects' marks' row' out')
-  turn_gridreport {r = r} e a g = record { taken = record { says = r; answer = rw e a; goes = g } }
-
-  pub turn-first : {q₀ : Phase} {r : Start} → q₀ ≡ phase.First
-      → ((before : State) → Started (world before nodes dots rects marks) line r (world (after_start before r) nodes' dots' rects' marks')
-      (output out out' (end_of r)))
-      → GoesTo (phase_of r) q
-      → Turn p q₀ (lent nodes dots rects marks row out) line q (lent nodes' dots' rects' marks' row out')
-  turn-first {r = r} e a g = record { taken = rw e (record { says = r; answer = a; row = refl; goes = g }) }
-
-pub turn-later : {p : Program} {q₀ q : Phase} {s : State} {l l' : Lent} {line : List ℕ} → q₀ ≡ phase.Going s → Turn p (phase.Going s) l line q l'
-    → Turn p q₀ l line q l'
-turn-later e t = rw e t
-
-pub turn-ended : {p : Program} {q₀ : Phase} {l : Lent} {line : List ℕ} → q₀ ≡ phase.Ended → Turn p q₀ l line phase.Ended l
-turn-ended e = record { taken = rw e (refl, refl) }
-
-pub turn-failed : {p : Program} {q₀ : Phase} {l : Lent} {line : List ℕ} → q₀ ≡ phase.Failed → Turn p q₀ l line phase.Failed l
-turn-failed e = record { taken = rw e (refl, refl) }
+pub goes_end : {to : Option State} → to ≡ None → GoesTo (phase_of to) phase.Ended
+goes_end e = rw e leads_on
 
 -- ---- lines one after another
 
@@ -93,14 +59,14 @@ is_first (phase.Going s) = 0
 is_first phase.Ended = 0
 is_first phase.Failed = 0
 
-goes_later : (r : Start) {q : Phase} → GoesTo (phase_of r) q → is_first q ≡ 0
-goes_later (start.Going s n) leads_on = refl
-goes_later (start.Ended n) leads_on = refl
-goes_later r breaks_off = refl
+goes_later : (to : Option State) {q : Phase} → GoesTo (phase_of to) q → is_first q ≡ 0
+goes_later (Some s) leads_on = refl
+goes_later None leads_on = refl
+goes_later to breaks_off = refl
 
 not_first : (q : Phase) {p : Program} {l : Lent} {x : List ℕ} {m : Phase} {k : Lent} → Turn p q l x m k → is_first m ≡ 0
-not_first phase.First t = goes_later t.taken.says t.taken.goes
-not_first (phase.Going s) t = goes_later t.taken.says t.taken.goes
+not_first phase.First t = goes_later t.taken.says.state t.taken.goes
+not_first (phase.Going s) t = goes_later t.taken.says.state t.taken.goes
 not_first phase.Ended t = ap is_first t.taken.0
 not_first phase.Failed t = ap is_first t.taken.0
 

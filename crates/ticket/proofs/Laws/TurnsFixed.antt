@@ -4,8 +4,7 @@ use Rattle.std.specs.Prelude.{◌≡◌, refl, List, ℕ}
 use Rattle.std.proofs.Common.{ap, sym, ◌∙◌}
 use Rattle.model.specs.declared.State.{State}
 use Rattle.lines.specs.Reading.{Output}
-use Rattle.ticket.specs.declared.Start.{Start}
-use Rattle.ticket.specs.First.{after_start, end_of}
+use Rattle.ticket.specs.First.{Start, after_start}
 use Rattle.ticket.proofs.Laws.Fixed.{TreeOrNone, answered_fixed, turned_fixed, started_fixed}
 use Rattle.ticket.specs.declared.Program.{Program}
 use Rattle.ticket.specs.declared.Program.TheVariants as program
@@ -20,14 +19,14 @@ module _ (l : Lent) (line : List ℕ) (l₁ l₂ : Lent) where
   later_fixed : (p : Program) (s : State) → TreeOrNone (world_of s l) → (r₁ r₂ : Start) → LaterAnswer p s l line r₁ l₁ → LaterAnswer p s l line r₂ l₂
       → l₁ ≡ l₂
   later_fixed program.Dotcheck s tree? r₁ r₂ m n =
-      let o = output_of l l₁ (end_of r₁) in
-      let q = output_of l l₂ (end_of r₂) in
+      let o = output_of l l₁ r₁.next in
+      let q = output_of l l₂ r₂.next in
       let same = answered_fixed (world_of s l) l.row line tree? (world_of (after_start s r₁) l₁) (world_of (after_start s r₂) l₂) l₁.row l₂.row o q refl
       m.1 n.1 in
       same-lent l₁ l₂ same.0 same.1 (ap (λ (x : Output). x.after) same.2)
   later_fixed program.Gridreport s tree? r₁ r₂ m n =
-      let o = output_of l l₁ (end_of r₁) in
-      let q = output_of l l₂ (end_of r₂) in
+      let o = output_of l l₁ r₁.next in
+      let q = output_of l l₂ r₂.next in
       let same = turned_fixed (world_of s l) l.row line tree? r₁ r₂ (world_of (after_start s r₁) l₁) (world_of (after_start s r₂) l₂) l₁.row l₂.row o q
       refl m n in
       same-lent l₁ l₂ same.1 same.2 (ap (λ (x : Output). x.after) same.3)
@@ -39,7 +38,7 @@ module _ (l : Lent) (line : List ℕ) (l₁ l₂ : Lent) where
       let m = t.taken in
       let n = u.taken in
       let same = started_fixed (world_of s l) m.says n.says (world_of (after_start s m.says) l₁) (world_of (after_start s n.says) l₂)
-      (output_of l l₁ (end_of m.says)) (output_of l l₂ (end_of n.says)) refl line (m.answer s) (n.answer s) in
+      (output_of l l₁ m.says.next) (output_of l l₂ n.says.next) refl line (m.answer s) (n.answer s) in
       same-lent l₁ l₂ same.1 (m.row ∙ sym n.row) (ap (λ (x : Output). x.after) same.2)
   turn_fixed p s (phase.Going t) tree? q₁ q₂ m n = later_fixed p t (tree? t) m.taken.says n.taken.says m.taken.answer n.taken.answer
   turn_fixed p s phase.Ended tree? q₁ q₂ m n = m.taken.1 ∙ sym n.taken.1

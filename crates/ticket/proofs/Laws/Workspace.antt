@@ -7,15 +7,15 @@ use Rattle.ticket.specs.declared.Workspace.{Workspace}
 use Rattle.ticket.specs.Workspace.{SameWorkspace}
 
 pub same-refl : {w : Workspace} → SameWorkspace w w
-same-refl = record { rows = same-rows-refl; marks = refl; row = refl; out = refl; row_length = refl; out_length = refl }
+same-refl = record { program = refl; rows = refl; same_rows = same-rows-refl; marks = refl; row = refl; out = refl }
 
 pub same-then : {w w' w'' : Workspace} → SameWorkspace w w' → SameWorkspace w' w'' → SameWorkspace w w''
 same-then s t =
     record {
-      rows = same-rows-then s.rows t.rows;
+      program = t.program ∙ s.program;
+      rows = t.rows ∙ s.rows;
+      same_rows = same-rows-then s.same_rows t.same_rows;
       marks = t.marks ∙ s.marks;
       row = t.row ∙ s.row;
       out = t.out ∙ s.out;
-      row_length = t.row_length ∙ s.row_length;
-      out_length = t.out_length ∙ s.out_length;
     }

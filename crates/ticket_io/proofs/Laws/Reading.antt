@@ -1,13 +1,11 @@
 -- Reads, one after another.
 --     chunk_start, chunk_line, chunk_part, chunk_end       the loop over the lines of a read's bytes
 --     reading-start, reading-on, reading-over, no_end      one read after another, and the last
---     status_one, status_zero      what the exit status says
-use Rattle.std.specs.Prelude.{◌≡◌, refl, Bool, true, false, Option, List, [], ◌∷◌, ◌++◌, map, ℕ, ◌≤◌, length, take, drop}
+use Rattle.std.specs.Prelude.{◌≡◌, refl, Bool, true, false, Option, Some, None, List, [], ◌∷◌, ◌++◌, map, ℕ, ◌≤◌, length, take, drop}
 use Rattle.std.proofs.Common.{ap, sym, subst, ◌∙◌, arith}
 use Rattle.std.proofs.Math.Seq.{drop-length}
 use Rattle.arithmetic.proofs.Laws.Tests.{true_false}
 use Rattle.line_reader.specs.declared.Found.{Found}
-use Rattle.line_reader.specs.declared.Found.TheVariants as found
 use Rattle.line_reader.specs.Cut.{lines, last_line, joined, progress, read_bytes, hand_out}
 use Rattle.line_reader.specs.Steps.{Finds}
 use Rattle.line_reader.proofs.Laws.Cut.{handed-more, handed_out}
@@ -41,26 +39,24 @@ chunk_start p from kept line bytes l fits =
 
 module _ {p : Program} {from : Phase} {begun bytes : List ℕ} {room : ℕ} {l : Lent} {q : Phase} {kept at : ℕ} {line : List ℕ} {k : Lent}
     (so_far : Chunking p from begun bytes room l q kept at line k) where
-  pub chunk_line : {r : Found} {n next : ℕ} {line' : List ℕ} {q' : Phase} {l' : Lent} → r ≡ found.Line n next → Finds line kept bytes at line' r
-      → length line' ≡ length line → Turn p q k (take n line') q' l' → Chunking p from begun bytes room l q' 0 next line' l'
-  chunk_line {r} {n} {next} {line'} e f same t =
-      let line-found : Finds line kept bytes at line' (found.Line n next) = rw e at f in
-      let step = finds-reads hand_out so_far.whole line kept bytes at line' (found.Line n next) line-found in
+  pub chunk_line : {r : Found} {next : ℕ} {line' : List ℕ} {p' : Program} {q' : Phase} {l' : Lent} → r.next ≡ Some next → Finds line kept bytes at line' r
+      → length line' ≡ length line → p' ≡ p → Turn p' q k (take r.count line') q' l' → Chunking p from begun bytes room l q' 0 next line' l'
+  chunk_line {r} {next} {line'} e f same program t =
+      let step = finds-reads hand_out so_far.whole line kept bytes at line' r f in
       record {
-        whole = so_far.whole ++ (take n line' ∷ []);
-        cut = so_far.cut ∙ (rw so_far.same_length at step);
-        turns = turns_more so_far.turns t;
+        whole = so_far.whole ++ (take r.count line' ∷ []);
+        cut = so_far.cut ∙ (rw so_far.same_length at rw e at step);
+        turns = turns_more so_far.turns (rw program at t);
         within = omega arith;
         inside = line-inside e f;
         same_length = same ∙ so_far.same_length;
       }
 
-  pub chunk_part : {r : Found} {n : ℕ} {line' : List ℕ} → r ≡ found.More n → Finds line kept bytes at line' r
-      → Chunked p from begun bytes room l (record { phase = q; kept = n }) line' k
-  chunk_part {r} {n} {line'} e f =
-      let part-found : Finds line kept bytes at line' (found.More n) = rw e at f in
-      let step = finds-reads hand_out so_far.whole line kept bytes at line' (found.More n) part-found in
-      record { whole = so_far.whole; cut = so_far.cut ∙ (rw so_far.same_length at step); turns = so_far.turns; within = part-found.within }
+  pub chunk_part : {r : Found} {line' : List ℕ} → r.next ≡ None → Finds line kept bytes at line' r
+      → Chunked p from begun bytes room l (record { phase = q; kept = r.count }) line' k
+  chunk_part {r} {line'} e f =
+      let step = finds-reads hand_out so_far.whole line kept bytes at line' r f in
+      record { whole = so_far.whole; cut = so_far.cut ∙ (rw so_far.same_length at rw e at step); turns = so_far.turns; within = f.within }
 
   pub chunk_end : length bytes ≤ at → Chunked p from begun bytes room l (record { phase = q; kept = kept }) line k
   chunk_end all =
@@ -147,18 +143,12 @@ module _ {p : Program} {l : Lent} {from : Progress} {line : List ℕ} {k : Lent}
     answered-over (none is f) e = reading-ends so_far (rw e at f)
     answered-over (failed is broken kept) e = no_end (sym broken ∙ e)
 
-  module _ {buffer : List ℕ} (read : ReadOn p from line k buffer to line' l') where
+  module _ {buffer : List ℕ} {p' : Program} (program : p' ≡ p) (read : ReadOn p' from line k buffer to line' l') where
+    same-read : ReadOn p from line k buffer to line' l'
+    same-read = rw program at read
+
     pub reading-on : is_over to.phase ≡ false → Reading p 81 l to line' l'
-    reading-on going = answered-on read.answered going
+    reading-on going = answered-on same-read.answered going
 
     pub reading-over : to.phase ≡ phase.Ended → AllAnswered p l l'
-    reading-over e = answered-over read.answered e
-
--- ---- the status
-
-pub status_one : {p : Program} {l l' : Lent} {status : ℕ} → status ≡ 1 → (status ≤ 1) × (status ≡ 0 → AllAnswered p l l')
-status_one e = (omega arith, λ zero. absurd (omega arith))
-
-pub status_zero : {p : Program} {l l' : Lent} {q : Phase} → (q ≡ phase.Ended → AllAnswered p l l') → q ≡ phase.Ended
-    → (0 ≤ 1) × (◌≡◌ {A = ℕ} 0 0 → AllAnswered p l l')
-status_zero all e = (omega arith, λ zero. all e)
+    reading-over e = answered-over same-read.answered e

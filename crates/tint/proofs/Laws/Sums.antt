@@ -1,18 +1,21 @@
 -- Laws of the dots of a tile, summed.
---     RowSum, row_fits, row_more       the loop over the columns of a row
+--     row-counted  the dots of a row, as the columns that have one
 --     count-few    at most as many dots as corners
 --     sum_top, sum-next, sum_fits  a word by the word of the row above
 --     Filling, fill_start     the loop over the words
-use Rattle.std.specs.Prelude.{◌≡◌, refl, Bool, true, false, List, ltb, length}
+use Rattle.std.specs.Prelude.{◌≡◌, refl, List, ltb, length}
+use Rattle.std.specs.List.{range_with_len, sum_by, filter}
+use Rattle.std.proofs.lemmas.List.Sums.{length-filter}
+use Rattle.std.proofs.lemmas.List.FromFn.{sum_by-map-range_with_len_more}
 use Rattle.std.proofs.Math.Path.{ap, ap₂}
-use Rattle.std.proofs.Common.{sym, ◌∙◌, add-one, mul-le-mul}
-use Rattle.std.proofs.Math.Bool.{cond}
-use Prim.Native.Nat.{ℕ, suc, ◌+◌, ◌*◌, ◌-◌, ◌/◌, ◌%◌, ◌≤◌, ◌<◌}
+use Rattle.std.proofs.Common.{sym, ◌∙◌, add-one, map-id, mul-le-mul}
+use Prim.Native.Nat.{ℕ, zero, suc, ◌+◌, ◌*◌, ◌-◌, ◌/◌, ◌%◌, ◌≤◌, ◌<◌}
 use native.Mathlib.Omega.{arith}
 use Rattle.std.proofs.Math.ListN.{get_or}
 use Rattle.std.specs.Int.{w32}
-use mir.Val.{Fits, bool_byte}
+use mir.Val.{Fits}
 use Rattle.model.specs.Shapes.{below}
+use Rattle.model.specs.Sums.{sum_below}
 use Rattle.model.specs.Thresholds.{threshold_at, count_before}
 use Rattle.model.proofs.Laws.Sums.{sum_below-le, sum_below-one, sum_below-mul}
 use Rattle.model.proofs.Laws.Shapes.{below-le}
@@ -24,24 +27,16 @@ row-few : (tint row width : ℕ) → row_dots tint row width ≤ width
 row-few tint row width =
     omega (arith, sum_below-one width, sum_below-le width (λ i. below (threshold_at i row) tint) (λ i. 1) (λ i b. below-le (threshold_at i row) tint))
 
--- the dots in the first columns, of so many
-pub record RowSum (tint row width count i : ℕ) : Type 0 where
-  pub within : i ≤ width
-  pub counted : count ≡ row_dots tint row i
+sum-range : (f : ℕ → ℕ) (n : ℕ) → sum_by f (range_with_len 0 n) ≡ sum_below n f
+sum-range f zero = refl
+sum-range f (suc n) =
+    let more = simp map-id at (sum_by-map-range_with_len_more f (λ x. x) 0 n n (omega arith)) in
+    omega (arith, rw add-one at more, sum-range f n)
 
-as_one : (t : Bool) → bool_byte t ≡ cond t 1 0
-as_one true = refl
-as_one false = refl
-
-module _ {tint row width count i : ℕ} {dot : Bool} (s : RowSum tint row width count i) (h : i < width) (e : dot ≡ ltb (threshold_at i row) tint) where
-  pub row_more : RowSum tint row width (count + bool_byte dot) (i + 1)
-  unfolding below
-  row_more =
-      let one : bool_byte dot ≡ below (threshold_at i row) tint = as_one dot ∙ ap (λ (t : Bool). cond t 1 0) e in
-      record { within = omega arith; counted = rw (add-one i) (ap₂ ◌+◌ s.counted one) }
-
-  pub row_fits : Fits w32 width → Fits w32 (count + bool_byte dot)
-  row_fits f = let more = row_more in record { fits = omega (arith, more.counted, more.within, row-few tint row (i + 1)) }
+-- the columns that have a dot, as a list
+pub row-counted : (tint row n : ℕ) → length (filter (λ i. ltb (threshold_at i row) tint) (range_with_len 0 n)) ≡ row_dots tint row n
+unfolding below
+row-counted tint row n = length-filter (λ i. ltb (threshold_at i row) tint) (range_with_len 0 n) ∙ sum-range (λ i. below (threshold_at i row) tint) n
 
 -- ---- a word
 

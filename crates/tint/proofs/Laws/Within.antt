@@ -1,6 +1,6 @@
 -- Laws of the dots of a patch within bounds.
 --     columns_within, rows_within    the columns and the rows of a patch whose dots lie within bounds
---     Sides, sides     a patch's ranges
+--     Sides, sides, tint-few   a patch's ranges
 --     patch-within     the dots within bounds are those in these columns and rows
 --     tile-row_fits, number_fits, dots-few, rects-few, within-few   at most 1048576 dots
 --     ids-told         when their ids fit
@@ -54,6 +54,9 @@ sides p e =
       few_rows = leb-true _ _ (and_t (leb 1 p.rows) (leb p.rows 64) tiles.1).1;
       tint_fits = leb-true _ _ both.1;
     }
+
+pub tint-few : (p : Patch) → patch_fits p ≡ true → p.tint ≤ 256
+tint-few p e = (sides p e).tint_fits
 
 -- ---- the dots
 

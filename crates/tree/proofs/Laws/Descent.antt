@@ -2,8 +2,9 @@
 --     steps_left    how far a leaf can be at most
 --     Descending, down-start, down-depth, down-node, down-less, down-on, down-arrived
 --                  the walk's invariant, its begin, what a turn asks, a turn, its end
-use Rattle.std.specs.Prelude.{◌≡◌, refl, false, cond, List, ℕ, ◌+◌, ◌-◌, ◌*◌, ◌<◌, eqb}
-use Rattle.std.proofs.Common.{ap, sym, ◌∙◌}
+use Rattle.std.specs.Prelude.{◌≡◌, refl, Bool, true, false, cond, List, ℕ, ◌+◌, ◌-◌, ◌*◌, ◌<◌, eqb}
+use Rattle.std.proofs.Common.{ap, sym, ◌∙◌, eqb-true}
+use Rattle.std.proofs.lemmas.Bool.{eqb-false}
 use Rattle.std.proofs.Math.Path.{subst}
 use native.Mathlib.Omega.{arith}
 use Rattle.arithmetic.proofs.Laws.Tests.{by_bool}
@@ -82,22 +83,23 @@ module _ {s : Settings} {nodes : List ℕ} (way : Way s nodes) where
           leads = λ t g. (t, g, refl);
         }
 
-    module _ {n : NodeData} {a : ℕ} {words : Node} (down : Descending nodes r n₀ n a words) where
+    module _ {n : NodeData} {a : ℕ} {words : Node} (down : Descending nodes r n₀ n a words)
+        {b : Bool} (told : b ≡ eqb words.count branch_mark) where
       from : (t : Tree) → Guided nodes (root_data s) 0 t → (u : Tree) × Guided nodes n a u × (leaf_for r n₀ 0 t ≡ leaf_for r n a u)
       from t g = down.leads t (subst (λ (n : NodeData). Guided nodes n 0 t) (sym begin) g)
 
       -- no branch: this is the leaf
-      pub down-arrived : ¬ (words.count ≡ branch_mark) → LeadsTo s nodes r (record { node = a; node_data = n })
-      down-arrived ne t g =
+      pub down-arrived : b ≡ false → LeadsTo s nodes r (record { node = a; node_data = n })
+      down-arrived is_leaf t g =
           let o = from t g in
           let leaf : leaf_for r n a o.0 ≡ record { node = a; node_data = n } =
-          at_end nodes r n a o.0 o.1 (λ e. ne (ap (λ (w : Node). w.count) down.read ∙ e)) in
+          at_end nodes r n a o.0 o.1 (λ e. eqb-false words.count branch_mark (sym told ∙ is_leaf) (ap (λ (w : Node). w.count) down.read ∙ e)) in
           sym (ap (λ (n : NodeData). leaf_for r n 0 t) (sym begin) ∙ o.2 ∙ leaf)
 
       -- a branch, and the child on the way
-      module _ (branches : words.count ≡ branch_mark) {child : ℕ} (ec : child ≡ route n r) where
+      module _ (branches : b ≡ true) {child : ℕ} (ec : child ≡ route n r) where
         counts : count_at nodes a ≡ branch_mark
-        counts = sym (ap (λ (w : Node). w.count) down.read) ∙ branches
+        counts = sym (ap (λ (w : Node). w.count) down.read) ∙ eqb-true words.count branch_mark (sym told ∙ branches)
 
         turned : (t : Tree) → (u : Tree) → Guided nodes n a u → Turned nodes r n a words.first u
         turned t u g =
@@ -125,16 +127,16 @@ module _ {s : Settings} {nodes : List ℕ} (way : Way s nodes) where
           pub down-on : {words' : Node} → words' ≡ node_at nodes (words.first + child) → Descending nodes r n₀ n' (words.first + child) words'
           unfolding child_data
           down-on ew =
-              let b = words.first + child in
+              let below = words.first + child in
               record {
                 read = ew;
                 range = subst (λ (y : NodeData). InRange y.cell) known (child-range n.cell (route n r) down.range);
                 leads = λ t g.
                     let o = down.leads t g in
                     let m = turned t o.0 o.1 in
-                    let node : words.first + route n r ≡ b = omega arith in (
+                    let node : words.first + route n r ≡ below = omega arith in (
                       m.below,
-                      subst (λ (y : NodeData). Guided nodes y b m.below) known
+                      subst (λ (y : NodeData). Guided nodes y below m.below) known
                           (subst (λ (y : ℕ). Guided nodes (child_data n (route n r)) y m.below) node m.guided),
                       o.2 ∙ m.same ∙ (λ j. leaf_for r (known j) (node j) m.below),
                     );

@@ -33,8 +33,8 @@ pub record Rest (dots row₀ : List ℕ) (at₀ head count : ℕ) (row : List �
   pub position : at + left ≡ at₀ + count
   pub rest : (whole : List Placed) → ChainInRows dots head whole → length whole ≡ count → RestOf dots row₀ at₀ whole row at place left
 
-pub rest-start : {dots row : List ℕ} {at head count : ℕ} → Rest dots row at head count row at head count
-rest-start = record { same = refl; position = refl; rest = λ whole s l. record { chain = whole; stands = s; long = l; written = refl } }
+pub rest-start : {dots row : List ℕ} {at here head count : ℕ} → here ≡ at → Rest dots row at head count row here head count
+rest-start e = rw e (record { same = refl; position = refl; rest = λ whole s l. record { chain = whole; stands = s; long = l; written = refl } })
 
 module _ {dots row₀ : List ℕ} {at₀ head count : ℕ} {row : List ℕ} {at place left : ℕ} (inv : Rest dots row₀ at₀ head count row at place left) where
   turn_of : (whole : List Placed) → RestOf dots row₀ at₀ whole row at place left → 0 < left
@@ -60,10 +60,10 @@ module _ {dots row₀ : List ℕ} {at₀ head count : ℕ} {row : List ℕ} {at 
           }
 
   -- a turn, by what its calls ensure
-  pub rest-turn : {p place' left' id : ℕ} → Passed dots place left p place' left' → id ≡ id_at dots p
-      → Rest dots row₀ at₀ head count (set row at id) (at + 1) place' left'
-  rest-turn t e =
-      rw (e ∙ ap (id_at dots) t.here, t.next, t.rest)
+  pub rest-turn : {p place' left' here id at' : ℕ} → Passed dots place left p place' left' → id ≡ id_at dots p → here ≡ at → at' ≡ at + 1
+      → Rest dots row₀ at₀ head count (set row here id) at' place' left'
+  rest-turn t e here next =
+      rw (e ∙ ap (id_at dots) t.here, t.next, t.rest, here, next)
       (record {
         same = length-set row at (id_at dots place) ∙ inv.same;
         position = omega (arith, inv.position);
@@ -79,11 +79,11 @@ module _ {dots row₀ : List ℕ} {at₀ head count : ℕ} {row : List ℕ} {at 
         go (d ∷ ds) s l = subst (HasPlace dots) (sym s.stands.0) s.in_rows.0.0
 
   -- nothing is left: the whole chain is written
-  pub rest_end : left ≡ 0 → ChainListed dots row₀ at₀ head count row at
+  pub rest_end : left ≡ 0 → ChainListed dots row₀ at₀ head count row (at₀ + count)
   unfolding ChainListed
   rest_end z = λ whole s l. let r = inv.rest whole s l in go whole l r.chain r.long r.written
     where
       go : (whole : List Placed) → length whole ≡ count → (chain : List Placed) → length chain ≡ left
-          → sets row at (ids chain) ≡ sets row₀ at₀ (ids whole) → Written row₀ at₀ whole row at
-      go whole l [] k w = record { position = omega (arith, inv.position, l); written = w }
+          → sets row at (ids chain) ≡ sets row₀ at₀ (ids whole) → Written row₀ at₀ whole row (at₀ + count)
+      go whole l [] k w = record { position = omega (arith, l); written = w }
       go whole l (d ∷ ds) k w = absurd (omega (arith, k))

@@ -1,25 +1,32 @@
 -- Laws of marks.
---     mark-one, mark-bits, marked-length       one mark more
+--     mark-one, mark-bits       one mark more
 --     place-added, group-added     the same, as what is added
 --     once-rest, once-whole, added-whole   what is counted, in two parts of which the first has been marked
 --     marks-ready      the marks are as a walk needs them after one more
+--     unmarked, was_marked     what was there, by the answer
 --     zero-at          marks that are 0
 --     marks-told       whether every mark is 1
 use Rattle.std.specs.Prelude.{◌≡◌, refl, List, Bool, true, false, MatchBool, ℕ, zero, suc, ◌+◌, ◌≤◌, ◌<◌, length, get_or, set, replicate}
 use Rattle.std.proofs.Common.{ap, sym, ◌∙◌, arith, length-set, get_or-set_same, get_or-set_other}
 use Rattle.std.proofs.Math.Decide.{ℕ_discrete}
+use borrow.Author.Tests.{eqb-true, eqb-false}
 use Rattle.std.specs.List.{AllWithin, HoldsAt}
 use Rattle.model.specs.Sums.{indicator}
 use Rattle.model.proofs.Laws.Sums.{indicator-same, indicator_other, by_dec}
-use Rattle.tree_check.specs.Marks.{place_mark, group_mark, Once, Added, MarksReady, AllMarked}
+use Rattle.memory.specs.Lent.{Held, places_held, groups_held}
+use Rattle.tree_check.specs.Marks.{place_mark, group_mark, Marked, Once, Added, MarksReady, AllMarked}
 
 pub zero-at : (n j : ℕ) → get_or (replicate {A = ℕ} n 0) j 0 ≡ 0
 zero-at zero j = refl
 zero-at (suc n) zero = refl
 zero-at (suc n) (suc j) = zero-at n j
 
-pub marked-length : (marks marks' : List ℕ) (k : ℕ) → length marks' ≡ length (set marks k 1) → length marks' ≡ length marks
-marked-length marks marks' k e = e ∙ length-set marks k 1
+module _ {marks marks' : List ℕ} {k : ℕ} {first : Bool} (one : Marked marks k marks' first) where
+  pub unmarked : first ≡ true → get_or marks k 0 ≡ 0
+  unmarked e = eqb-true _ _ (sym one.told ∙ e)
+
+  pub was_marked : first ≡ false → get_or marks k 0 ≡ 0 → ⊥
+  was_marked e = eqb-false _ _ (sym one.told ∙ e)
 
 module _ (marks : List ℕ) (k : ℕ) (room : k < length marks) (unmarked : get_or marks k 0 ≡ 0) where
   pub mark-one : (j : ℕ) → get_or (set marks k 1) j 0 ≡ get_or marks j 0 + indicator j k
@@ -41,11 +48,14 @@ module _ (marks : List ℕ) (k : ℕ) (room : k < length marks) (unmarked : get_
   pub place-added : (limit : ℕ) → Added (place_mark marks) (place_mark (set marks k 1)) limit (λ j. indicator j k)
   place-added limit = record { added = λ j b. mark-one j }
 
-module _ (marks : List ℕ) (places groups k : ℕ) (ready : MarksReady marks places groups) (room : k < groups) (unmarked : group_mark places marks k ≡ 0) where
+module _ {h : Held} (marks : List ℕ) (k : ℕ) (ready : MarksReady h marks) (room : k < groups_held h) (unmarked : group_mark h marks k ≡ 0) where
+  abbrev places : ℕ
+  places = places_held h
+
   in_marks : places + k < length marks
   in_marks = omega (arith, ready.room)
 
-  pub group-added : Added (group_mark places marks) (group_mark places (set marks (places + k) 1)) groups (λ j. indicator j k)
+  pub group-added : Added (group_mark h marks) (group_mark h (set marks (places + k) 1)) (groups_held h) (λ j. indicator j k)
   group-added =
       let shift : (j : ℕ) → indicator (places + j) (places + k) ≡ indicator j k = λ j.
       by_dec (ℕ_discrete j k)
@@ -55,7 +65,7 @@ module _ (marks : List ℕ) (places groups k : ℕ) (ready : MarksReady marks pl
       (λ ne. omega (arith, indicator_other j k ne, indicator_other (places + j) (places + k) (λ e. ne (omega arith)))) in
       record { added = λ j b. omega (arith, mark-one marks (places + k) in_marks unmarked (places + j), shift j) }
 
-  pub marks-ready : MarksReady (set marks (places + k) 1) places groups
+  pub marks-ready : MarksReady h (set marks (places + k) 1)
   marks-ready =
       record { room = length-set marks (places + k) 1 ∙ ready.room; bits = mark-bits marks (places + k) in_marks unmarked ready.bits }
 

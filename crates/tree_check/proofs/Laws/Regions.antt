@@ -1,5 +1,4 @@
 -- The rules by regions are the rules of a valid tree.
---     fits-outside, fits-inside, fits-routed       the test of a dot, by what the code reads
 --     fits_below       to fit a child's region is to fit the parent's and to be routed to the child
 --     fine_well, well_fine     Fine is WellFormed, with each dot's region
 --     root-fine, fine-root     the same at the root, where a region asks no more than that a dot is acceptable
@@ -11,7 +10,7 @@ use Rattle.std.proofs.Common.{ap₂, ◌∙◌, subst, arith}
 use Rattle.std.proofs.Math.Bool.{false, and-true, and_assoc}
 use Prim.Native.Nat.{ℕ, zero, suc, ◌+◌, ◌≤◌, ◌<◌}
 use Rattle.std.proofs.Math.Dec.{eqb}
-use borrow.Author.Tests.{eqb-true, eq-eqb, ne_eqb, not-true, not-false}
+use borrow.Author.Tests.{eqb-true, eq-eqb, ne_eqb}
 use Rattle.arithmetic.proofs.Laws.Linear.{and_t}
 use Rattle.geometry.specs.declared.settings.Settings.{Settings}
 use Rattle.geometry.specs.Rectangles.{same_rect, zero_rect}
@@ -34,6 +33,7 @@ use Rattle.model.specs.Insert.{route_dot}
 use Rattle.model.specs.Shapes.{WellFormed}
 use Rattle.model.specs.Layout.{branch_mark, blank}
 use Rattle.model.proofs.Laws.Dots.{dot-upright, same_rect_true, same_rect-same}
+use Rattle.memory.specs.Lent.{Held}
 use Rattle.tree_check.specs.declared.region.Region.{Region}
 use Rattle.tree_check.specs.Regions.{root_region, region_below, fits, is_blank}
 use Rattle.tree_check.specs.Trees.{MaySplit, Fits, Fine, Sound, GroupReady}
@@ -48,24 +48,6 @@ and_both false b c f = refl
 fits-is : (r : Region) → r.node.is_child_0 ≡ false → (d : Dot) → fits r d ≡ acceptable_dot r.settings d && in_bounds r.bounds d.rect
 unfolding fits
 fits-is r z d = rw z (and-true (acceptable_dot r.settings d && in_bounds r.bounds d.rect))
-
--- the three ways through the test, by what the code reads
-module _ (r : Region) (d : Dot) {accepts holds : Bool} (a : accepts ≡ acceptable_dot r.settings d) (h : holds ≡ in_bounds r.bounds d.rect) where
-  both : {b : Bool} → accepts && holds ≡ b → acceptable_dot r.settings d && in_bounds r.bounds d.rect ≡ b
-  both e = sym (λ i. a i && h i) ∙ e
-
-  pub fits-outside : not (accepts && holds) ≡ true → false ≡ fits r d
-  unfolding fits
-  fits-outside n = rw (both (not-true _ n))
-
-  module _ (n : not (accepts && holds) ≡ false) where
-    pub fits-inside : not r.node.is_child_0 ≡ true → true ≡ fits r d
-    unfolding fits
-    fits-inside z = rw (both (not-false _ n), z)
-
-    pub fits-routed : {to : ℕ} → not r.node.is_child_0 ≡ false → to ≡ route r.node d.rect → eqb to 0 ≡ fits r d
-    unfolding fits
-    fits-routed z e = rw (both (not-false _ n), z) (λ i. eqb (e i) 0)
 
 module _ (r : Region) (splits : MaySplit r) (d : Dot) where
   no-child_0 : r.node.is_child_0 ≡ false
@@ -175,7 +157,7 @@ pub levels-below : {r below : Region} (i : ℕ) → below ≡ region_below r i �
 unfolding region_below
 levels-below {r} i is s m = subst (λ (x : Region). 1 + levels x ≤ levels r) (sym is) (levels_fall r.settings s.smallest r.node m i)
 
-pub levels-some : {r : Region} {groups group left : ℕ} → GroupReady r groups group left → 1 ≤ levels r
+pub levels-some : {r : Region} {rows : Held} {group : ℕ} → GroupReady r rows group → 1 ≤ levels r
 levels-some {r} g = omega (arith, levels-below 0 refl g.sound g.splits)
 
 pub shallow-depth : {r : Region} → Sound r → MaySplit r → r.node.depth < 4294967295

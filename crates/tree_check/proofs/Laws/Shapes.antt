@@ -1,7 +1,7 @@
 -- What the parts of the check have found is a shape that the memory holds; and a memory that holds a shape passes each part.
 --     found-holds      the shape
 --     live-fits, tree-good, groups-good, places-good, all_one      what a memory that holds a shape shows to each part
-use Rattle.std.specs.Prelude.{◌≡◌, refl, List, map, ℕ, ◌+◌, ◌-◌, ◌≤◌, ◌<◌, ℤ, length, get_or}
+use Rattle.std.specs.Prelude.{◌≡◌, refl, List, map, ℕ, ◌+◌, ◌-◌, ◌≤◌, ◌<◌, length, get_or}
 use Rattle.std.proofs.Common.{ap, sym, ◌∙◌, subst, arith}
 use Rattle.std.proofs.Math.Decide.{dec_lt}
 use Rattle.std.proofs.lemmas.List.{length-map}
@@ -13,42 +13,45 @@ use Rattle.model.proofs.Laws.Sums.{by_dec, sum_over-map}
 use Rattle.model.specs.Lists.{count}
 use Rattle.model.specs.Trees.{Placed, at_place, place_count, group_count, size}
 use Rattle.model.specs.Shapes.{Shape, Valid, WellFormed, below}
-use Rattle.model.specs.Layout.{World, world, none, branch_mark, blank, Holds}
-use Rattle.model.specs.Memory.{Mem, read, Chained, Represented}
+use Rattle.model.specs.Layout.{World, none, branch_mark, blank, Holds}
+use Rattle.model.specs.Memory.{Mem, Chained, Represented}
 use Rattle.model.proofs.Laws.Shapes.{below_yes, below-no, below-le, live-and_free, distinct-length}
 use Rattle.model.proofs.Laws.Memory.{holds-represented, represented-holds}
 use Rattle.model.proofs.Laws.Pattern.{one-chain, one-tree, one_free, length-blank}
-use Rattle.memory.specs.Lent.{holding}
+use Rattle.memory.specs.Lent.{Held, places_held, groups_held, mem_of, world_of}
 use Rattle.tree_check.specs.Regions.{root_region, is_blank}
-use Rattle.tree_check.specs.Chains.{place_memory, ChainGood, ChainFound}
-use Rattle.tree_check.specs.Frees.{node_memory, FreeGood, FreeFound}
+use Rattle.tree_check.specs.Chains.{ChainGood, ChainFound}
+use Rattle.tree_check.specs.Frees.{FreeGood, FreeFound}
 use Rattle.tree_check.specs.Trees.{TreeGood, TreeFound}
 use Rattle.tree_check.specs.Checks.{CheckReady}
-use Rattle.tree_check.proofs.Laws.Chains.{chain-nodes}
-use Rattle.tree_check.proofs.Laws.Frees.{free-places}
 use Rattle.tree_check.proofs.Laws.Trees.{fine-legible}
 use Rattle.tree_check.proofs.Laws.Regions.{root-fine, fine-root, all-blank, blanks_are}
 
-module _ (s : State) (nodes dots : List ℕ) (rects : List ℤ) (marks : List ℕ) (places groups : ℕ)
-    (ready : CheckReady s (holding nodes dots rects) marks places groups) where
+module _ {s : State} {rows : Held} {marks : List ℕ} (ready : CheckReady s rows marks) where
   abbrev W : World
-  W = world s nodes dots rects marks
+  W = world_of s rows marks
 
   abbrev M : Mem
-  M = read nodes dots rects
+  M = mem_of rows
+
+  abbrev places : ℕ
+  places = places_held rows
+
+  abbrev groups : ℕ
+  groups = groups_held rows
 
   abbrev FoundTree : List ℕ → Type 0
-  FoundTree marks₁ = TreeFound (root_region s.settings) M marks places groups 0 marks₁
+  FoundTree marks₁ = TreeFound (root_region s.settings) rows marks 0 marks₁
 
   abbrev FoundGroups : List ℕ → List ℕ → Type 0
-  FoundGroups marks₁ marks₂ = FreeFound (node_memory nodes) marks₁ places groups s.free_group groups marks₂
+  FoundGroups marks₁ marks₂ = FreeFound rows marks₁ s.free_group marks₂
 
   abbrev FoundPlaces : List ℕ → List ℕ → Type 0
-  FoundPlaces marks₂ marks₃ = ChainFound is_blank (place_memory dots rects) marks₂ places s.free_place (places - s.live) marks₃
+  FoundPlaces marks₂ marks₃ = ChainFound is_blank rows marks₂ s.free_place (places - s.live) marks₃
 
   -- ---- what was found
 
-  module _ (live : s.live ≤ places) (marks₁ marks₂ marks₃ : List ℕ) (t : FoundTree marks₁) (g : FoundGroups marks₁ marks₂) (p : FoundPlaces marks₂ marks₃)
+  module _ (live : s.live ≤ places) {marks₁ marks₂ marks₃ : List ℕ} (t : FoundTree marks₁) (g : FoundGroups marks₁ marks₂) (p : FoundPlaces marks₂ marks₃)
       (ones : (j : ℕ) → j < places + groups → get_or marks₃ j 0 ≡ 1) where
     abbrev X : Shape
     X =
@@ -91,15 +94,14 @@ module _ (s : State) (nodes dots : List ℕ) (rects : List ℤ) (marks : List �
     X-represented : Represented W X
     X-represented =
         let r = ready.ready in
-        let chained = chain-nodes (place_memory dots rects) M refl refl s.free_place p.chain p.good.chained in
         record {
           nodes = omega (arith, r.node_room);
           dots = r.dot_room;
           rects = r.rect_room;
           marks = r.mark_ready.room;
           tree = t.good.stands;
-          groups = free-places (node_memory nodes) M refl refl s.free_group g.free g.good.listed;
-          places = subst (λ (xs : List Placed). Chained M s.free_place xs none) (blanks_are p.chain p.good.passing) chained;
+          groups = g.good.listed;
+          places = subst (λ (xs : List Placed). Chained M s.free_place xs none) (blanks_are p.chain p.good.passing) p.good.chained;
           settings = refl;
           live = omega (arith, live-and_free X X-valid, length-map p.chain (λ (d : Placed). d.place), p.good.counted);
           changes = refl;
@@ -132,7 +134,7 @@ module _ (s : State) (nodes dots : List ℕ) (rects : List ℤ) (marks : List �
     pub live-fits : places < s.live → ⊥
     live-fits b = omega (arith, counts, rep.live)
 
-    pub tree-good : TreeGood (root_region s.settings) M marks places groups 0 x.tree
+    pub tree-good : TreeGood (root_region s.settings) rows marks 0 x.tree
     unfolding branch_mark
     tree-good =
         record {
@@ -149,16 +151,16 @@ module _ (s : State) (nodes dots : List ℕ) (rects : List ℤ) (marks : List �
           };
         }
 
-    module _ (marks₁ : List ℕ) (t : FoundTree marks₁) where
+    module _ {marks₁ : List ℕ} (t : FoundTree marks₁) where
       same-tree : t.tree ≡ x.tree
       same-tree =
           let told = fine-legible (root_region s.settings) in
           one-tree M 0 t.tree x.tree (told t.tree t.good.fine) (told x.tree tree-good.fine) t.good.stands rep.tree
 
-      pub groups-good : FreeGood (node_memory nodes) marks₁ places groups s.free_group groups x.free_groups
+      pub groups-good : FreeGood rows marks₁ s.free_group groups x.free_groups
       groups-good =
           record {
-            listed = free-places M (node_memory nodes) refl refl s.free_group x.free_groups rep.groups;
+            listed = rep.groups;
             few = distinct-length groups x.free_groups
                 (λ k. omega (arith, groups-once k, below-le k groups)) (λ k b. omega (arith, groups-once k, below-no k groups b));
             once = record {
@@ -167,14 +169,14 @@ module _ (s : State) (nodes dots : List ℕ) (rects : List ℤ) (marks : List �
             };
           }
 
-      module _ (marks₂ : List ℕ) (g : FoundGroups marks₁ marks₂) where
+      module _ {marks₂ : List ℕ} (g : FoundGroups marks₁ marks₂) where
         blanks_count : (j : ℕ) → sum_over (at_place j) (map blank x.free_places) ≡ count j x.free_places
         blanks_count j = sum_over-map (at_place j) blank x.free_places
 
-        pub places-good : ChainGood is_blank (place_memory dots rects) marks₂ places s.free_place (places - s.live) (map blank x.free_places)
+        pub places-good : ChainGood is_blank rows marks₂ s.free_place (places - s.live) (map blank x.free_places)
         places-good =
             record {
-              chained = chain-nodes M (place_memory dots rects) refl refl s.free_place (map blank x.free_places) rep.places;
+              chained = rep.places;
               counted = omega (arith, length-blank x.free_places, counts, rep.live);
               passing = all-blank x.free_places;
               once = record {
@@ -198,14 +200,14 @@ module _ (s : State) (nodes dots : List ℕ) (rects : List ℤ) (marks : List �
 
         same-free : g.free ≡ x.free_groups
         same-free =
-            one_free (node_memory nodes) s.free_group g.free x.free_groups
+            one_free M s.free_group g.free x.free_groups
             (in_range_lem g.free g.good.once.within) (in_range_lem x.free_groups groups-good.once.within)
             g.good.listed groups-good.listed
 
-        module _ (marks₃ : List ℕ) (p : FoundPlaces marks₂ marks₃) where
+        module _ {marks₃ : List ℕ} (p : FoundPlaces marks₂ marks₃) where
           same-chain : p.chain ≡ map blank x.free_places
           same-chain =
-              one-chain (place_memory dots rects) s.free_place p.chain (map blank x.free_places)
+              one-chain M s.free_place p.chain (map blank x.free_places)
               (p.good.counted ∙ sym places-good.counted) p.good.chained places-good.chained
 
           pub all_one : (j : ℕ) → j < places + groups → get_or marks₃ j 0 ≡ 1

@@ -1,6 +1,6 @@
 -- The cleanup's walk of a group: a law for each way through the code.
 --     group-none   no child is left
---     group-node, last_in, group-rest      the last child of those left, in the row; then the others
+--     group-node, group-rest      the last child of those left, in the row; then the others
 --     group-cleaned        what the two walks leave together
 --     Ahead, ahead-node, ahead-next, ahead_end     the loop over the children: a child's walk, a turn, its end
 use Rattle.std.specs.Prelude.{◌≡◌, refl, List, ℕ, suc, ◌+◌, ◌-◌, ◌≤◌, ◌<◌, ℤ, length}
@@ -90,9 +90,6 @@ module _ (nodes : List ℕ) (swept : Swept) (first levels left : ℕ) (some : le
         fits = rw at (w.fits i (omega arith));
         small = omega (arith, w.small, sum-last left some (λ j. node_total (w.children j)));
       }
-
-  pub last_in : GroupToClean nodes swept first levels left → HasNode nodes (first + (left - 1))
-  last_in w = walked_in (group-node w)
 
   module _ (nodes₁ : List ℕ) (next : Swept) (same : length nodes₁ ≡ length nodes) (node : NodeCleaned nodes swept (first + (left - 1)) levels nodes₁ next) where
     -- what the last child's walk leaves, for any children that stand there

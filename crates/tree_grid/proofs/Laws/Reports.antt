@@ -33,8 +33,10 @@ use Rattle.model.proofs.Laws.Shapes.{live-and_free}
 use Rattle.model.proofs.Laws.Memory.{holds-represented}
 use Rattle.model.proofs.Laws.Places.{places-sum}
 use Rattle.model.proofs.Laws.Grid.{total_dots, count_weigh, counts-length, counts-at}
+use Rattle.tree_grid.specs.declared.counts.Counts.{Counts}
 use Rattle.tree_grid.specs.declared.places.Pass.{Pass}
-use Rattle.tree_grid.specs.Counts.{Added, Cleared, Room, Empty, zero_words, weight_of, met_by, besides, zero_is, zeros_in, Passed}
+use Rattle.tree_grid.specs.Counts.{Added, Cleared, Room, Empty, zero_words, weight_of, met_by, besides, zero_is, zeros_in}
+use Rattle.tree_grid.specs.Passes.{RectAdded, Passed}
 use Rattle.tree.specs.Operations.{HasRects}
 use Rattle.tree_grid.specs.Answers.{Totalled, Reported}
 use Rattle.tree_grid.proofs.Laws.Counts.{in_past, cells-none}
@@ -94,10 +96,9 @@ module _ (row row' : List ℕ) (n : ℕ) (c : Cleared row n row') (fits : n ≤ 
       ∙ get_or-append (zero_words n) (drop n row) 0 i (omega (arith, length-replicate {A = ℕ} n 0))
       ∙ get_or-replicate n i 0 0 b
 
-  pub places-ask : (g : Grid) (rects : List ℤ) → n ≡ windows g → sizes_fit g ≡ true → length rects / 4 ≤ 65536
-      → ((sizes_fit g ≡ true) × (windows g ≤ length row') × Empty (windows g) row') × ((length rects / 4 ≤ 65536) × (4 * (length rects / 4) ≤ length rects))
-  places-ask g rects is sized few =
-      ((sized, omega (arith, clear_length, is), subst (λ (k : ℕ). Empty k row') is clear_empty), (few, omega arith))
+  pub places-ask : (g : Grid) (rects : List ℤ) → n ≡ windows g → length rects / 4 ≤ 65536
+      → Empty (windows g) row' × ((length rects / 4 ≤ 65536) × (4 * (length rects / 4) ≤ length rects))
+  places-ask g rects is few = (subst (λ (k : ℕ). Empty k row') is clear_empty, (few, omega arith))
 
 module _ (s : State) (rects : List ℤ) (t : HasRects s rects) where
   pub has-few : length rects / 4 ≤ 65536
@@ -118,69 +119,69 @@ module _ (s : State) (rects : List ℤ) (t : HasRects s rects) where
   has-free = free-few s t.nodes t.dots rects t.tree.marks t.tree.shape t.tree.holds
 
 -- the zero rectangles that are added at the end
-module _ {g : Grid} {rects : List ℤ} {row row' : List ℕ} {pass : Pass} (sized : sizes_fit g ≡ true) (p : Passed g rects (length rects / 4) row row' pass)
-    (few : length rects / 4 ≤ 65536) where
-  abbrev all : Passing g rects (length rects / 4) row row' pass (length rects / 4)
+module _ {rects : List ℤ} {c c' : Counts} {pass : Pass} (p : Passed rects (length rects / 4) c c' pass) (few : length rects / 4 ≤ 65536) where
+  abbrev all : Passing rects (length rects / 4) c c' pass (length rects / 4)
   all = record { within = omega arith; passed = p }
 
-  pub rest-asks : {weight : ℕ} → windows g ≤ length row → Empty (windows g) row → weight ≤ pass.zeros
-      → (sizes_fit g ≡ true) × (windows g ≤ length row') × (weight ≤ 65536) × Room 0 (windows g) weight row'
-  rest-asks {weight} fits empty some = (
-    sized,
-    omega (arith, p.counts.same_length),
-    omega (arith, zeros-le all),
-    pass-room all fits empty weight (omega (arith, zeros-le all)),
-  )
+  pub rest-asks : {weight : ℕ} → Empty (windows c.grid) c.row.now → weight ≤ pass.zeros → (weight ≤ 65536) × Room 0 (windows c'.grid) weight c'.row.now
+  rest-asks {weight} empty some = (omega (arith, zeros-le all), pass-room all empty weight (omega (arith, zeros-le all)))
 
-  pub rest-fits : {weight met : ℕ} → weight ≤ pass.zeros → met ≡ weight * met_by g zero_rect → pass.total + met ≤ 4294967296
+  pub rest-fits : {weight met : ℕ} → weight ≤ pass.zeros → met ≡ weight * met_by c'.grid zero_rect → pass.total + met ≤ 4294967296
   rest-fits {weight} {met} some is =
       omega (
         arith,
-        totals-le all sized,
+        totals-le all,
         is,
         zeros-le all,
-        mul-le-mul {n₁ = weight} {m₁ = met_by g zero_rect} {n₂ = 65536} {m₂ = 4096} (omega (arith, zeros-le all)) (met-few g sized zero_rect),
+        mul-le-mul {n₁ = weight} {m₁ = met_by c'.grid zero_rect} {n₂ = 65536} {m₂ = 4096} (omega (arith, zeros-le all)) (met-few c'.grid c'.sized zero_rect),
       )
 
 -- ---- the counts
 
 -- what the code does: the words are cleared, all places added, then the zero rectangle as often as dots have it
-pub record Worked (g : Grid) (s : State) (rects : List ℤ) (row row' : List ℕ) (total met : ℕ) : Type 0 where
-  pub zeroed : List ℕ
-  pub summed : List ℕ
-  pub pass : Pass
-  pub room : windows g ≤ length row
-  pub clears : Cleared row (windows g) zeroed
-  pub passes : Passed g rects (length rects / 4) zeroed summed pass
-  pub last : Added summed (weight_of g zero_rect (pass.zeros - (length rects / 4 - s.live))) row'
-  pub totals : total ≡ pass.total
-  pub others : met ≡ (pass.zeros - (length rects / 4 - s.live)) * met_by g zero_rect
+pub record Worked (s : State) (rects : List ℤ) (row : List ℕ) (c₁ c₂ c₃ : Counts) (pass : Pass) (met : ℕ) : Type 0 where
+  pub room : windows c₁.grid ≤ length row
+  pub clears : Cleared row (windows c₁.grid) c₁.row.now
+  pub passes : Passed rects (length rects / 4) c₁ c₂ pass
+  pub last : RectAdded zero_rect (pass.zeros - (length rects / 4 - s.live)) c₂ c₃ met
 
 -- a rectangle as often as its weight says
 times : (b : Bool) (weight : ℕ) → cond b weight 0 ≡ weight * cond b 1 0
 times true weight = omega arith
 times false weight = omega arith
 
-module _ (g : Grid) (fits : sizes_fit g ≡ true) where
+module _ (c₁ : Counts) where
+  abbrev g : Grid
+  g = c₁.grid
+
   -- nothing is added beyond the windows
   beyond : (r : AABB) (weight i : ℕ) → windows g ≤ i → weight_of g r weight i ≡ 0
   beyond r weight i out =
-      let z = sizes g fits in
+      let z = sizes g c₁.sized in
       let late : rows_of g ≤ i / columns_of g = (le-div_iff_mul-le z.some_columns).1 (omega (arith, mul_comm (columns_of g) (rows_of g))) in
       let past : (rows_met g r).end ≤ i / columns_of g = omega (arith, (span_met-within (flat r) g.y (down g) (rows_of g) r.y1 r.y2).0) in
       cells-none (columns_of g) (columns_met g r) (rows_met g r) weight i (in_past (rows_met g r) (i / columns_of g) past)
 
   -- `places` is N, `spare` how many dots have the zero rectangle
   module _ (s : State) (nodes dots : List ℕ) (rects : List ℤ) (marks : List ℕ) (x : Shape) (h : Holds (world s nodes dots rects marks) x)
-      (row row₃ : List ℕ) (total met : ℕ) (k : Worked g s rects row row₃ total met) where
+      (row : List ℕ) (c₂ c₃ : Counts) (pass : Pass) (met : ℕ) (k : Worked s rects row c₁ c₂ c₃ pass met) where
     abbrev places : ℕ
     places = length rects / 4
 
     abbrev row₁ : List ℕ
-    row₁ = k.zeroed
+    row₁ = c₁.row.now
+
+    abbrev row₃ : List ℕ
+    row₃ = c₃.row.now
 
     abbrev spare : ℕ
-    spare = k.pass.zeros - (places - s.live)
+    spare = pass.zeros - (places - s.live)
+
+    last : Added c₂.row.now (weight_of g zero_rect spare) row₃
+    last = rw k.passes.same.grid at k.last.counts
+
+    others : met ≡ spare * met_by g zero_rect
+    others = rw k.passes.same.grid at k.last.is_met
 
     same-spare : spare ≡ zeros_in rects places - (places - s.live)
     same-spare = ap (λ (n : ℕ). n - (places - s.live)) k.passes.left_out
@@ -197,11 +198,11 @@ module _ (g : Grid) (fits : sizes_fit g ≡ true) where
     got : (i : ℕ) → i < length row
         → get_or row₃ i 0 ≡ get_or row₁ i 0 + (sum_below places (λ p. besides (λ r. weight_of g r 1 i) (rect_at rects p)) + weight_of g zero_rect spare i)
     got i b =
-        omega (arith, k.last.each i (omega (arith, k.passes.counts.same_length, same_length)), k.passes.counts.each i (omega (arith, same_length)))
+        omega (arith, last.each i (omega (arith, k.passes.counts.same_length, same_length)), k.passes.counts.each i (omega (arith, same_length)))
 
     inside : (i : ℕ) → i < windows g → get_or row₃ i 0 ≡ get_or (grid_counts g x) i 0
     inside i b =
-        let z = sizes g fits in
+        let z = sizes g c₁.sized in
         let column = i % columns_of g in
         let line = i / columns_of g in
         let across-in : column < columns_of g = mod-lt i z.some_columns in
@@ -213,7 +214,7 @@ module _ (g : Grid) (fits : sizes_fit g ≡ true) where
           clear_empty row row₁ (windows g) k.clears k.room i b,
           times met-zero spare,
           zero_weigh (λ r. weight_of g r 1 i),
-          count_weigh g fits x h.valid column line across-in down-in,
+          count_weigh g c₁.sized x h.valid column line across-in down-in,
           counts-at g x i z.some_columns b,
         )
 
@@ -243,7 +244,7 @@ module _ (g : Grid) (fits : sizes_fit g ≡ true) where
     counts-row : row₃ ≡ grid_counts g x ++ drop (windows g) row
     counts-row =
         let n = windows g in
-        let long : length row₃ ≡ length row = k.last.same_length ∙ k.passes.counts.same_length ∙ same_length in
+        let long : length row₃ ≡ length row = last.same_length ∙ k.passes.counts.same_length ∙ same_length in
         let whole : length (grid_counts g x ++ drop n row) ≡ length row =
         omega (arith, length-append (grid_counts g x) (drop n row), counts-length g x, length-drop n row) in
         ext_get_or 0 row₃ (grid_counts g x ++ drop n row) (long ∙ sym whole)
@@ -259,18 +260,19 @@ module _ (g : Grid) (fits : sizes_fit g ≡ true) where
             ∙ get_or-drop (windows g) row (i - windows g) 0
             ∙ ap (λ (j : ℕ). get_or row j 0) (omega arith)
 
-    total_is : total + met ≡ grid_total g x
+    total_is : pass.total + met ≡ grid_total g x
     unfolding dots_total
     total_is =
-        omega (arith, k.totals, k.passes.totals, k.others, zero_weigh (met_by g), total_dots g fits x h.valid)
+        omega (arith, k.passes.totals, others, zero_weigh (met_by g), total_dots g c₁.sized x h.valid)
 
-    totalled-here : (row₃ ≡ grid_counts g x ++ drop (windows g) row) × (total + met ≡ grid_total g x)
+    totalled-here : (row₃ ≡ grid_counts g x ++ drop (windows g) row) × (pass.total + met ≡ grid_total g x)
     totalled-here = (counts-row, total_is)
 
-pub totalled : (g : Grid) (s : State) (rects : List ℤ) (row row' : List ℕ) (total met : ℕ) → sizes_fit g ≡ true → Worked g s rects row row' total met
-    → Totalled s rects g row row' (total + met)
+pub totalled : {s : State} {rects : List ℤ} {row : List ℕ} {c₁ c₂ c₃ : Counts} {pass : Pass} {met : ℕ} → Worked s rects row c₁ c₂ c₃ pass met
+    → Totalled s rects c₁.grid row c₃.row.now (pass.total + met)
 unfolding Totalled
-totalled g s rects row row' total met fits k = λ nodes dots marks x h. totalled-here g fits s nodes dots rects marks x h row row' total met k
+totalled {s} {rects} {row} {c₁} {c₂} {c₃} {pass} {met} k = λ nodes dots marks x h.
+    totalled-here c₁ s nodes dots rects marks x h row c₂ c₃ pass met k
 
 -- ---- the answers
 
@@ -294,10 +296,11 @@ module _ (s : State) (rects : List ℤ) (g : Grid) (row : List ℕ) where
         rw (sized, near, lt-ltb (length row) (windows g) (omega (arith, many)))
         (ap (λ (n : ℕ). exit (world s nodes dots rects (replicate (length marks) 0)) row (too_many n)) many)
 
-    pub report-counted : (row' : List ℕ) (total : ℕ) → count ≤ length row → Totalled s rects g row row' total → Reported s rects g row row' (answered total)
+    pub report-counted : {row' kept : List ℕ} (total : ℕ) → count ≤ length row → Totalled s rects g row kept total → row' ≡ kept
+        → Reported s rects g row row' (answered total)
     unfolding Reported Totalled grid_rule cleared
-    report-counted row' total fits done = λ nodes dots marks x h.
-        let found = done nodes dots marks x h in
+    report-counted total fits done same = λ nodes dots marks x h.
+        let found = rw (sym same) at (done nodes dots marks x h) in
         let words = h.words in
         let written = found.0 ∙ ap (λ (n : ℕ). grid_counts g x ++ drop n row) (sym (counts-length g x)) in
         rw (sized, near, le-ltb (length row) (windows g) (omega (arith, many))) (λ i. exit (words i) (written i) (answered (found.1 i)))

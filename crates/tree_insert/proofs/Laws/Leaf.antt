@@ -117,7 +117,7 @@ module _ {s : State} {nodes dots : List ℕ} {rects : List ℤ} {marks : List �
 
   -- the count of its splits
   module _ {node : Node} (words : node ≡ node_at nodes l.node) where
-    counted : (k : Countable x.settings dots rects (node_at nodes l₀.node) l₀.node_data) × (k.chain ≡ chain₀)
+    counted : (k : Countable x.settings (holding nodes dots rects) (node_at nodes l₀.node) l₀.node_data) × (k.chain ≡ chain₀)
     counted = (
       record {
         settings = h.valid.settings_fit;
@@ -130,14 +130,15 @@ module _ {s : State} {nodes dots : List ℕ} {rects : List ℤ} {marks : List �
       refl,
     )
 
-    here-counted : (k : Countable s.settings dots rects node l.node_data) × (k.chain ≡ chain₀)
+    here-counted : (k : Countable s.settings (holding nodes dots rects) node l.node_data) × (k.chain ≡ chain₀)
     here-counted =
         let to : node ≡ node_at nodes l₀.node = words ∙ ap (λ (y : Leaf). node_at nodes y.node) at_leaf in
-        subst (λ (y : Settings). (k : Countable y dots rects node l.node_data) × (k.chain ≡ chain₀)) (sym (holds-settings w₀ x h))
-        (subst (λ (y : Node). (k : Countable x.settings dots rects y l.node_data) × (k.chain ≡ chain₀)) (sym to)
-        (subst (λ (y : Leaf). (k : Countable x.settings dots rects (node_at nodes l₀.node) y.node_data) × (k.chain ≡ chain₀)) (sym at_leaf) counted))
+        subst (λ (y : Settings). (k : Countable y (holding nodes dots rects) node l.node_data) × (k.chain ≡ chain₀)) (sym (holds-settings w₀ x h))
+        (subst (λ (y : Node). (k : Countable x.settings (holding nodes dots rects) y l.node_data) × (k.chain ≡ chain₀)) (sym to)
+        (subst (λ (y : Leaf). (k : Countable x.settings (holding nodes dots rects) (node_at nodes l₀.node) y.node_data) × (k.chain ≡ chain₀))
+        (sym at_leaf) counted))
 
-    pub countable : Countable s.settings dots rects node l.node_data
+    pub countable : Countable s.settings (holding nodes dots rects) node l.node_data
     countable = here-counted.0
 
     pub needed-is : {needed : Option ℕ} → SplitsTold s.settings (holding nodes dots rects) node l.node_data dot.rect s.free_group needed

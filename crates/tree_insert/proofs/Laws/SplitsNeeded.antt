@@ -1,12 +1,14 @@
 -- The splits that an insert needs: at each level the dots of the leaf's chain that lie within the bounds of the node reached.
---     Tallying, tally_start, tally_here, tally_on, tally_over      the count of a chain: its loop's invariant, begin, place, turn and end
+--     Tallying, tally_start, tally_here, tally_fits, tally_on, tally_over      the count of a chain: its loop's invariant, begin, place, sum, turn and end
 --     told-short, told-enough      what the answer says of the splits and the groups
 --     Counting, need_start, need_on        the count of the splits: its loop's invariant, begin and turn
 --     need_depth, need_fall        at a turn: a child is not too deep, and fewer steps are left
 --     need_short, need_done        its ends: no group is left for a split; no split is due
-use Rattle.std.specs.Prelude.{◌≡◌, refl, List, [], ◌∷◌, Some, None, Bool, true, false, cond, ◌&&◌, ◌⊎◌, ℕ, ◌+◌, ◌-◌, ◌≤◌, zero, suc, ◌<◌, ℤ, length, eqb, leb}
+use Rattle.std.specs.Prelude.{◌≡◌, refl, List, [], ◌∷◌, Some, None, Bool, true, false, cond, ◌&&◌, ◌⊎◌, ℕ, ◌+◌, ◌-◌, ◌≤◌, zero, suc, ◌<◌, length, eqb, leb}
 use Rattle.std.proofs.Common.{ap, sym, ◌∙◌, inl, inr, ⊎_elim, arith, eq-eqb, le-leb, leb-true, leb-false}
 use Rattle.std.proofs.Math.Path.{subst}
+use Rattle.std.specs.Int.{w32}
+use mir.Val.{Fits, bool_byte}
 use Rattle.std.proofs.Math.Decide.{ℕ_discrete}
 use Rattle.std.proofs.lemmas.Bool.{lt-leb}
 use Rattle.arithmetic.proofs.Laws.Tests.{by_bool, true_false}
@@ -34,57 +36,62 @@ use Rattle.memory.specs.declared.node.Node.{Node}
 use Rattle.memory.specs.Nodes.{node_at}
 use Rattle.memory.specs.Rows.{HasRect}
 use Rattle.memory.specs.Chains.{Passed}
-use Rattle.memory.specs.Lent.{holding}
+use Rattle.memory.specs.Lent.{Held}
 use Rattle.tree.specs.Chains.{ChainStands}
 use Rattle.tree.proofs.Laws.Chains.{stands_here}
 use Rattle.tree.proofs.Laws.Descent.{steps_left, steps_fall}
-use Rattle.tree_insert.specs.SplitsNeeded.{within, SomeChain, Countable, needed_of, SplitsTold}
+use Rattle.tree_insert.specs.SplitsNeeded.{within, SomeChain, CountedWithin, Countable, needed_of, SplitsTold}
 use Rattle.tree_insert.proofs.Laws.FreeGroups.{Walking, walk_start, walk-on, walk_end}
 use Rattle.tree_insert.proofs.Laws.Bounds.{one-most, Chosen, all-chosen, child-chosen}
 
 -- ---- the count of a chain
 
 -- the count that began at a head is at a place, with so many left
-pub record Tallying (dots : List ℕ) (rects : List ℤ) (b : Bounds) (head total at left count : ℕ) : Type 0 where
-  pub few : count + left ≤ total
-  pub rest : (chain : List Placed) → ChainStands dots rects head total chain
-      → (ds : List Placed) × ChainStands dots rects at left ds × (sum_over (within b) chain ≡ count + sum_over (within b) ds)
+pub record Tallying (h : Held) (node : Node) (b : Bounds) (at left count : ℕ) : Type 0 where
+  pub few : count + left ≤ node.count
+  pub rest : (chain : List Placed) → ChainStands h.dots h.rects node.first node.count chain
+      → (ds : List Placed) × ChainStands h.dots h.rects at left ds × (sum_over (within b) chain ≡ count + sum_over (within b) ds)
 
-pub tally_start : {dots : List ℕ} {rects : List ℤ} {b : Bounds} {head total : ℕ} → Tallying dots rects b head total head total 0
+as_one : (t : Bool) → bool_byte t ≡ cond t 1 0
+as_one true = refl
+as_one false = refl
+
+pub tally_start : {h : Held} {node : Node} {b : Bounds} → Tallying h node b node.first node.count 0
 tally_start = record { few = omega arith; rest = λ chain s. (chain, s, omega arith) }
 
-module _ {dots : List ℕ} {rects : List ℤ} {b : Bounds} {head total at left count : ℕ} (t : Tallying dots rects b head total at left count) where
-  pub tally_here : SomeChain dots rects head total → {place next left' : ℕ} → Passed dots at left place next left' → HasRect rects place
+module _ {h : Held} {node : Node} {b : Bounds} {at left count : ℕ} (t : Tallying h node b at left count) where
+  pub tally_here : SomeChain h node → {place next left' : ℕ} → Passed h.dots at left place next left' → HasRect h.rects place
   tally_here given p =
-      let r = t.rest given.chain given.stands in subst (HasRect rects) (sym p.here) (stands_here dots rects at left r.0 r.1 p.some).1
+      let r = t.rest given.chain given.stands in subst (HasRect h.rects) (sym p.here) (stands_here h.dots h.rects at left r.0 r.1 p.some).1
 
   -- a dot is counted where its rectangle lies within the bounds
-  pub tally_on : {place next left' : ℕ} → Passed dots at left place next left' → {rect : AABB} {holds : Bool} {count' : ℕ}
-      → rect ≡ rect_at rects place → holds ≡ in_bounds b rect
-      → ((holds ≡ true) × (count' ≡ count + 1)) ⊎ ((holds ≡ false) × (count' ≡ count))
-      → Tallying dots rects b head total next left' count'
-  tally_on {next = next} {left'} p {holds = holds} {count'} er eh came =
-      rw (p.rest)
-      (record {
-        few = omega (arith, step, one-most holds, p.some);
-        rest = λ chain s. go chain (t.rest chain s).0 (t.rest chain s).1 (t.rest chain s).2;
-      })
-    where
-      step : count' ≡ count + cond holds 1 0
-      step = ⊎_elim (λ w. rw w.0 w.1) (λ w. rw w.0 (w.1 ∙ omega arith)) came
+  module _ {place next left' : ℕ} (p : Passed h.dots at left place next left') (holds : Bool) {one : ℕ} (e : one ≡ bool_byte holds) where
+    step : one ≡ cond holds 1 0
+    step = e ∙ as_one holds
 
-      go : (chain ds : List Placed) → ChainStands dots rects at left ds → sum_over (within b) chain ≡ count + sum_over (within b) ds
-          → (ds : List Placed) × ChainStands dots rects next (left - 1) ds × (sum_over (within b) chain ≡ count' + sum_over (within b) ds)
-      go chain [] g q = absurd (omega (arith, p.some))
-      go chain (d ∷ ds) g q =
-          let here : cond holds 1 0 ≡ within b d =
-          ap (λ (y : Bool). cond y 1 0) (eh ∙ ap (in_bounds b) (er ∙ ap (rect_at rects) p.here ∙ ap (λ (y : Dot). y.rect) g.3)) in
-          (ds, subst (λ (y : ℕ). ChainStands dots rects y (left - 1) ds) (sym p.next) g.5, omega (arith, here, step))
+    pub tally_fits : Fits w32 node.count → Fits w32 (count + one)
+    tally_fits f = record { fits = omega (arith, t.few, step, one-most holds, p.some, f.fits) }
 
-  pub tally_over : left ≡ 0 → (chain : List Placed) → ChainStands dots rects head total chain → count ≡ sum_over (within b) chain
+    pub tally_on : {rect : AABB} → rect ≡ rect_at h.rects place → holds ≡ in_bounds b rect → Tallying h node b next left' (count + one)
+    tally_on er eh =
+        rw (p.rest)
+        (record {
+          few = omega (arith, step, one-most holds, p.some, t.few);
+          rest = λ chain s. go chain (t.rest chain s).0 (t.rest chain s).1 (t.rest chain s).2;
+        })
+      where
+        go : (chain ds : List Placed) → ChainStands h.dots h.rects at left ds → sum_over (within b) chain ≡ count + sum_over (within b) ds
+            → (ds : List Placed) × ChainStands h.dots h.rects next (left - 1) ds × (sum_over (within b) chain ≡ count + one + sum_over (within b) ds)
+        go chain [] g q = absurd (omega (arith, p.some))
+        go chain (d ∷ ds) g q =
+            let here : cond holds 1 0 ≡ within b d =
+            ap (λ (y : Bool). cond y 1 0) (eh ∙ ap (in_bounds b) (er ∙ ap (rect_at h.rects) p.here ∙ ap (λ (y : Dot). y.rect) g.3)) in
+            (ds, subst (λ (y : ℕ). ChainStands h.dots h.rects y (left - 1) ds) (sym p.next) g.5, omega (arith, here, step))
+
+  pub tally_over : left ≡ 0 → CountedWithin h node b count
   tally_over none_left chain s = go (t.rest chain s).0 (t.rest chain s).1 (t.rest chain s).2
     where
-      go : (ds : List Placed) → ChainStands dots rects at left ds → sum_over (within b) chain ≡ count + sum_over (within b) ds
+      go : (ds : List Placed) → ChainStands h.dots h.rects at left ds → sum_over (within b) chain ≡ count + sum_over (within b) ds
           → count ≡ sum_over (within b) chain
       go [] g q = omega arith
       go (d ∷ ds) g q = absurd (omega (arith, g.4))
@@ -121,7 +128,7 @@ no-split s (suc levels) n r chain e = rw e refl
 
 -- of a leaf with the chain: so many splits are counted, and the rest are those of a leaf at n whose chain has count dots, those within b;
 -- at a child 0 there are none
-pub record Counted (s : Settings) (dots : List ℕ) (rects : List ℤ) (node : Node) (n₀ : NodeData) (r : AABB) (k : Countable s dots rects node n₀) (levels₀ : ℕ)
+pub record Counted (s : Settings) (h : Held) (node : Node) (n₀ : NodeData) (r : AABB) (k : Countable s h node n₀) (levels₀ : ℕ)
     (n : NodeData) (b : Bounds) (count splits : ℕ) : Type 0 where
   pub levels : ℕ
   pub chain : List Placed
@@ -130,15 +137,15 @@ pub record Counted (s : Settings) (dots : List ℕ) (rects : List ℤ) (node : N
   pub told : (n.is_child_0 ≡ true) ⊎ ((count ≡ length chain) × Chosen b k.chain chain)
 
 -- the loop's invariant, with the walk along the free groups: it has passed one a split
-pub record Counting (s : Settings) (nodes dots : List ℕ) (rects : List ℤ) (node : Node) (n₀ : NodeData) (r : AABB) (head group : ℕ) (n : NodeData) (b : Bounds)
+pub record Counting (s : Settings) (h : Held) (node : Node) (n₀ : NodeData) (r : AABB) (head group : ℕ) (n : NodeData) (b : Bounds)
     (count splits : ℕ) : Type 0 where
   pub range : InRange n.cell
   pub few : splits + steps_left n ≤ steps_left n₀
-  pub all : (k : Countable s dots rects node n₀) (levels₀ : ℕ) → levels_left s n₀ ≤ levels₀ → Counted s dots rects node n₀ r k levels₀ n b count splits
-  pub walk : Walking nodes head group splits
+  pub all : (k : Countable s h node n₀) (levels₀ : ℕ) → levels_left s n₀ ≤ levels₀ → Counted s h node n₀ r k levels₀ n b count splits
+  pub walk : Walking h.nodes head group splits
 
-module _ {s : Settings} {nodes dots : List ℕ} {rects : List ℤ} {node : Node} {n₀ : NodeData} {r : AABB} {head : ℕ} where
-  pub need_start : {b : Bounds} → Countable s dots rects node n₀ → b ≡ all_bounds → Counting s nodes dots rects node n₀ r head head n₀ b node.count 0
+module _ {s : Settings} {h : Held} {node : Node} {n₀ : NodeData} {r : AABB} {head : ℕ} where
+  pub need_start : {b : Bounds} → Countable s h node n₀ → b ≡ all_bounds → Counting s h node n₀ r head head n₀ b node.count 0
   need_start {b} given e =
       record {
         range = given.range;
@@ -154,12 +161,12 @@ module _ {s : Settings} {nodes dots : List ℕ} {rects : List ℤ} {node : Node}
         walk = walk_start;
       }
 
-  module _ {group : ℕ} {n : NodeData} {b : Bounds} {count splits : ℕ} (counting : Counting s nodes dots rects node n₀ r head group n b count splits)
-      (given : Countable s dots rects node n₀) {full? : Bool} (tested : full? ≡ may_split s n && leb s.leaf_limit count) where
+  module _ {group : ℕ} {n : NodeData} {b : Bounds} {count splits : ℕ} (counting : Counting s h node n₀ r head group n b count splits)
+      (given : Countable s h node n₀) {full? : Bool} (tested : full? ≡ may_split s n && leb s.leaf_limit count) where
     one : 1 ≤ s.smallest_cell
     one = (accepted s given.settings).cell
 
-    pub need_done : full? ≡ false → SplitsTold s (holding nodes dots rects) node n₀ r head (Some splits)
+    pub need_done : full? ≡ false → SplitsTold s h node n₀ r head (Some splits)
     need_done not k levels₀ high free listed =
         let c = counting.all k levels₀ high in
         let stays : must_split s n c.chain ≡ false =
@@ -184,7 +191,7 @@ module _ {s : Settings} {nodes dots : List ℕ} {rects : List ℤ} {node : Node}
       must chain e = ap (λ (y : ℕ). may_split s n && leb s.leaf_limit y) (sym e) ∙ sym tested ∙ full
 
       -- a split is counted, and the rest are those of the child's leaf
-      record Divided (k : Countable s dots rects node n₀) (levels₀ : ℕ) : Type 0 where
+      record Divided (k : Countable s h node n₀) (levels₀ : ℕ) : Type 0 where
         levels : ℕ
         chain : List Placed
         high : levels_left s n ≤ 1 + levels
@@ -192,7 +199,7 @@ module _ {s : Settings} {nodes dots : List ℕ} {rects : List ℤ} {node : Node}
             ≡ splits + 1 + split_count s levels (child_data n (route n r)) r (leaf (deal n (λ j. []) chain (route n r)))
         chosen : Chosen b k.chain chain
 
-      divided : (k : Countable s dots rects node n₀) (levels₀ : ℕ) → levels_left s n₀ ≤ levels₀ → Divided k levels₀
+      divided : (k : Countable s h node n₀) (levels₀ : ℕ) → levels_left s n₀ ≤ levels₀ → Divided k levels₀
       divided k levels₀ high = let c = counting.all k levels₀ high in go c.levels c.chain c.high c.same c.told
         where
           go : (levels : ℕ) (chain : List Placed) → levels_left s n ≤ levels
@@ -204,19 +211,19 @@ module _ {s : Settings} {nodes dots : List ℕ} {rects : List ℤ} {node : Node}
               record { levels = levels; chain = chain; high = omega arith; more = omega (arith, rw (must chain c.0) at same); chosen = c.1 }
 
       -- no group is left
-      pub need_short : group ≡ none → SplitsTold s (holding nodes dots rects) node n₀ r head None
+      pub need_short : group ≡ none → SplitsTold s h node n₀ r head None
       need_short e k levels₀ high free listed =
           let all = split_count s levels₀ n₀ r (leaf k.chain) in
           rw (lt-leb all (length free) (omega (arith, (divided k levels₀ high).more, walk_end counting.walk e free listed))) refl
 
       -- a turn, into the child
-      module _ (left : ¬ (group ≡ none)) {link : Node} {child : ℕ} {n' : NodeData} {b' : Bounds} {count' : ℕ} (el : link ≡ node_at nodes group)
+      module _ (left : ¬ (group ≡ none)) {link : Node} {child : ℕ} {n' : NodeData} {b' : Bounds} {count' : ℕ} (el : link ≡ node_at h.nodes group)
           (ec : child ≡ route n r) (en : n' ≡ child_data n child) (eb : b' ≡ bounds_below b n.cell child)
-          (count-is : (chain : List Placed) → ChainStands dots rects node.first node.count chain → count' ≡ sum_over (within b') chain) where
+          (count-is : CountedWithin h node b' count') where
         known : child_data n (route n r) ≡ n'
         known = ap (child_data n) (sym ec) ∙ sym en
 
-        counted-on : (k : Countable s dots rects node n₀) (levels₀ : ℕ) → Divided k levels₀ → Counted s dots rects node n₀ r k levels₀ n' b' count' (splits + 1)
+        counted-on : (k : Countable s h node n₀) (levels₀ : ℕ) → Divided k levels₀ → Counted s h node n₀ r k levels₀ n' b' count' (splits + 1)
         counted-on k levels₀ c =
             let i = route n r in
             let chain' = deal n (λ j. []) c.chain i in
@@ -238,7 +245,7 @@ module _ {s : Settings} {nodes dots : List ℕ} {rects : List ℤ} {node : Node}
                   inr (count-is k.chain k.stands ∙ sym (chosen some (λ d. 1)) ∙ sum_over-one chain', chosen some));
             }
 
-        pub need_on : Counting s nodes dots rects node n₀ r head link.first n' b' count' (splits + 1)
+        pub need_on : Counting s h node n₀ r head link.first n' b' count' (splits + 1)
         unfolding child_data
         need_on =
             record {

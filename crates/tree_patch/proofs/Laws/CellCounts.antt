@@ -19,7 +19,7 @@ use Rattle.model.specs.declared.patch.Patch.{Patch}
 use Rattle.model.specs.Trees.{Placed, Tree, leaf, branch}
 use Rattle.model.specs.Layout.{branch_mark}
 use Rattle.model.specs.Laying.{overfull}
-use Rattle.model.specs.Patch.{patch_rects}
+use Rattle.model.specs.Patch.{patch_fits, patch_rects}
 use Rattle.model.proofs.Laws.Sums.{sum_over-one}
 use Rattle.memory.specs.declared.node.Node.{Node}
 use Rattle.memory.specs.Nodes.{node_at}
@@ -59,21 +59,21 @@ module _ (s : Settings) (nodes dots : List ℕ) (rects : List ℤ) (c : Cell) (p
   unfolding CellCounted
   cell-none e none t st = sym (splits-none s laid_rects (patch-upright p) c.levels n c.bounds t st.formed (sym e ∙ none))
 
-  module _ {sums : List ℕ} (w : CellCount s (holding nodes dots rects) c p sums) where
+  module _ (w : CellCount s (holding nodes dots rects) c p) where
     one : 1 ≤ s.smallest_cell
-    one = (accepted s w.given.settings_fit).cell
+    one = (accepted s w.settings_fit).cell
 
     abbrev GroupAsked : Type 0
-    GroupAsked = GroupCount s (holding nodes dots rects) c 4 p sums
+    GroupAsked = GroupCount s (holding nodes dots rects) c 4 p
 
     -- the group below a cell that may split
     group-count : may_split s n ≡ true → 1 ≤ c.levels → (f : ℕ → Tree) → LastStand s (holding nodes dots rects) c 4 f
         → group_splits f ≤ most_splits → GroupAsked
     group-count may some f stand small =
         record {
-          given = w.given;
+          settings_fit = w.settings_fit;
           cell_fits = w.cell_fits;
-          deep = omega (arith, (may-splits s n may).above, (accepted s w.given.settings_fit).depth);
+          deep = omega (arith, (may-splits s n may).above, (accepted s w.settings_fit).depth);
           here = node_in-row nodes c.node w.tree w.stands.stands.nodes_in;
           some = some;
           few = omega arith;
@@ -117,20 +117,20 @@ module _ (s : Settings) (nodes dots : List ℕ) (rects : List ℤ) (c : Cell) (p
         no-branch : (g : ℕ) (f : ℕ → Tree) → Here (branch g f) → ⊥
         no-branch g f st = not-branch nodes c.node words told (ap not no) st.stands.represents.0
 
-        pub leaf-filled : Filled dots rects node laid
-        leaf-filled = rw words (go w.tree w.stands)
+        pub leaf-filled : patch_fits p ≡ true → Filled (holding nodes dots rects) node laid
+        leaf-filled fits = rw words (go w.tree w.stands)
           where
-            go : (t : Tree) → Here t → Filled dots rects (node_at nodes c.node) laid
+            go : (t : Tree) → Here t → Filled (holding nodes dots rects) (node_at nodes c.node) laid
             go (leaf chain) st =
                 record {
                   chain = chain;
                   stands = chain-stands st.stands;
                   few = omega (arith, st.stands.few, sum_over-one chain);
-                  laid_few = omega (arith, counted, within-few p w.given.patch_fit c.bounds);
+                  laid_few = omega (arith, counted, within-few p fits c.bounds);
                 }
             go (branch g f) st = absurd (no-branch g f st)
 
-        module _ {full : Bool} (tested : FullTold s dots rects node c laid full) where
+        module _ {full : Bool} (tested : FullTold s (holding nodes dots rects) node c laid full) where
           full_is : (chain : List Placed) → Here (leaf chain) → full ≡ overfull s n (length (filling s laid_rects c.bounds chain))
           full_is chain st =
               (rw words at tested) chain (chain-stands st.stands)

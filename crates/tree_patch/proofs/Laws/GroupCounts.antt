@@ -22,7 +22,7 @@ module _ (s : Settings) (nodes dots : List ℕ) (rects : List ℤ) (c : Cell) (l
   unfolding GroupCounted
   group-none z f st = rw z refl
 
-  module _ (some : ¬ (left ≡ 0)) {sums : List ℕ} (w : GroupCount s (holding nodes dots rects) c left p sums)
+  module _ (some : ¬ (left ≡ 0)) (w : GroupCount s (holding nodes dots rects) c left p)
       {below : Cell} (e : below ≡ cell_below nodes c (5 - left)) where
     child-stands : (f : ℕ → Tree) → LastStand s (holding nodes dots rects) c left f → CellStands s (holding nodes dots rects) below (f (5 - left))
     child-stands f st = rw e (st (5 - left) (omega (arith, w.few)) (omega (arith, some)))
@@ -32,11 +32,11 @@ module _ (s : Settings) (nodes dots : List ℕ) (rects : List ℤ) (c : Cell) (l
         → splits_of_last s p nodes c f left ≡ splits_at s p below (f (5 - left)) + splits_of_last s p nodes c f (left - 1)
     splits_are f = rw e (sum_step (λ i. splits_at s p (cell_below nodes c i) (f i)) left (omega (arith, some)))
 
-    pub group-child : CellCount s (holding nodes dots rects) below p sums
+    pub group-child : CellCount s (holding nodes dots rects) below p
     unfolding child_data
     group-child =
         record {
-          given = w.given;
+          settings_fit = w.settings_fit;
           cell_fits = rw e (child-range c.node_data.cell (5 - left) w.cell_fits);
           tree = w.children (5 - left);
           stands = child-stands w.children w.stand;
@@ -46,10 +46,10 @@ module _ (s : Settings) (nodes dots : List ℕ) (rects : List ℤ) (c : Cell) (l
     others-stand : (f : ℕ → Tree) → LastStand s (holding nodes dots rects) c left f → LastStand s (holding nodes dots rects) c (left - 1) f
     others-stand f st i low five = st i (omega arith) five
 
-    pub group-others : GroupCount s (holding nodes dots rects) c (left - 1) p sums
+    pub group-others : GroupCount s (holding nodes dots rects) c (left - 1) p
     group-others =
         record {
-          given = w.given;
+          settings_fit = w.settings_fit;
           cell_fits = w.cell_fits;
           deep = w.deep;
           here = w.here;
@@ -73,13 +73,13 @@ module _ (s : Settings) (nodes dots : List ℕ) (rects : List ℤ) (c : Cell) (l
 
 -- ---- the loop, with so many splits counted and so many children left
 
-pub record Ahead (s : Settings) (nodes dots : List ℕ) (rects : List ℤ) (c : Cell) (p : Patch) (sums : List ℕ) (splits left : ℕ) : Type 0 where
-  pub asks : GroupCount s (holding nodes dots rects) c left p sums
+pub record Ahead (s : Settings) (nodes dots : List ℕ) (rects : List ℤ) (c : Cell) (p : Patch) (splits left : ℕ) : Type 0 where
+  pub asks : GroupCount s (holding nodes dots rects) c left p
   pub fits : splits + splits_of_last s p nodes c asks.children left ≤ most_splits
   pub whole : (r : ℕ) → GroupCounted s (holding nodes dots rects) c left p r → GroupCounted s (holding nodes dots rects) c 4 p (splits + r)
 
-module _ {s : Settings} {nodes dots : List ℕ} {rects : List ℤ} {c : Cell} {p : Patch} {sums : List ℕ} where
-  pub ahead-start : GroupCount s (holding nodes dots rects) c 4 p sums → Ahead s nodes dots rects c p sums 0 4
+module _ {s : Settings} {nodes dots : List ℕ} {rects : List ℤ} {c : Cell} {p : Patch} where
+  pub ahead-start : GroupCount s (holding nodes dots rects) c 4 p → Ahead s nodes dots rects c p 0 4
   ahead-start w =
       record {
         asks = w;
@@ -87,7 +87,7 @@ module _ {s : Settings} {nodes dots : List ℕ} {rects : List ℤ} {c : Cell} {p
         whole = λ r g. let same : r ≡ 0 + r = omega arith in subst (GroupCounted s (holding nodes dots rects) c 4 p) same g;
       }
 
-  module _ {splits child : ℕ} (a : Ahead s nodes dots rects c p sums splits (5 - child)) where
+  module _ {splits child : ℕ} (a : Ahead s nodes dots rects c p splits (5 - child)) where
     module _ (from : 1 ≤ child) (more : child < 5) {below : Cell} (e : below ≡ cell_below nodes c child) where
       some : ¬ (5 - child ≡ 0)
       some z = omega arith
@@ -95,7 +95,7 @@ module _ {s : Settings} {nodes dots : List ℕ} {rects : List ℤ} {c : Cell} {p
       its : below ≡ cell_below nodes c (5 - (5 - child))
       its = let this : child ≡ 5 - (5 - child) = omega arith in e ∙ ap (cell_below nodes c) this
 
-      pub ahead-child : CellCount s (holding nodes dots rects) below p sums
+      pub ahead-child : CellCount s (holding nodes dots rects) below p
       ahead-child = group-child s nodes dots rects c (5 - child) p some a.asks its
 
       module _ (here : ℕ) (counted : CellCounted s (holding nodes dots rects) below p here) where
@@ -105,7 +105,7 @@ module _ {s : Settings} {nodes dots : List ℕ} {rects : List ℤ} {c : Cell} {p
         pub ahead-fits : splits + here ≤ most_splits
         ahead-fits = omega (arith, a.fits, spent)
 
-        turned : Ahead s nodes dots rects c p sums (splits + here) ((5 - child) - 1)
+        turned : Ahead s nodes dots rects c p (splits + here) ((5 - child) - 1)
         unfolding group-others
         turned =
             record {
@@ -117,10 +117,10 @@ module _ {s : Settings} {nodes dots : List ℕ} {rects : List ℤ} {c : Cell} {p
                   (a.whole (here + r) (group-counted s nodes dots rects c (5 - child) p some a.asks its here r counted g));
             }
 
-        pub ahead-next : Ahead s nodes dots rects c p sums (splits + here) (5 - (child + 1))
+        pub ahead-next : Ahead s nodes dots rects c p (splits + here) (5 - (child + 1))
         ahead-next =
             let others : (5 - child) - 1 ≡ 5 - (child + 1) = omega arith in
-            subst (Ahead s nodes dots rects c p sums (splits + here)) others turned
+            subst (Ahead s nodes dots rects c p (splits + here)) others turned
 
     pub ahead_end : 5 ≤ child → GroupCounted s (holding nodes dots rects) c 4 p splits
     ahead_end z =

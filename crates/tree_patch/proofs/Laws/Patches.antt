@@ -28,7 +28,6 @@ use Rattle.memory.specs.Lent.{holding}
 use Rattle.tree.specs.Operations.{IsTree}
 use Rattle.tree.proofs.Laws.Operations.{tree-settings}
 use Rattle.tree.proofs.Laws.Trees.{root_stands}
-use Rattle.tint.specs.Sums.{TileSums}
 use Rattle.tint.specs.Counts.{within_bounds}
 use Rattle.tint.proofs.Laws.Within.{within-few}
 use Rattle.tint.proofs.Laws.Units.{patch-upright}
@@ -53,10 +52,10 @@ module _ (s : State) (nodes dots : List ℕ) (rects : List ℤ) where
           enough = rw (known, deep) (levels-root s.settings);
         }
 
-    pub root-count : {p : Patch} {sums : List ℕ} → IsTree s (holding nodes dots rects) → patch_fits p ≡ true → TileSums p.tint sums
-        → CellCount s.settings (holding nodes dots rects) (root_at n b levels) p sums
+    pub root-count : {p : Patch} → IsTree s (holding nodes dots rects) → patch_fits p ≡ true
+        → CellCount s.settings (holding nodes dots rects) (root_at n b levels) p
     unfolding root_data
-    root-count {p} t fits tile =
+    root-count {p} t fits =
         let ok = tree-settings t in
         let x = t.shape in
         let stands = root-cell t.marks x t.holds in
@@ -64,7 +63,7 @@ module _ (s : State) (nodes dots : List ℕ) (rects : List ℤ) where
         omega (arith, stands.stands.few, within-few p fits b) in
         let high : levels ≤ 255 = omega (arith, deepest-within s.settings ok) in
         record {
-          given = record { settings_fit = ok; patch_fit = fits; tile = tile };
+          settings_fit = ok;
           cell_fits = rw known (root-range s.settings (accepted s.settings ok).root);
           tree = x.tree;
           stands = stands;

@@ -28,7 +28,6 @@ use Rattle.tree.specs.Trees.{node_total, sum_last, TreeStands}
 use Rattle.tree.proofs.Laws.Trees.{not-branch, is-branch, mark-no_leaf, shallow-branch, child-stands}
 use Rattle.tree_query.specs.Walks.{chain_hits, after, row_after, Left, CanGrow}
 use Rattle.tree_query.specs.Walks.{ChainWalk, ChainWalked, NodeWalk, NodeWalked, GroupWalk, GroupWalked}
-use Rattle.tree.proofs.Laws.Chains.{chain_rows}
 use Rattle.tree.proofs.Laws.Children.{join-five}
 
 -- one node more is opened
@@ -41,22 +40,22 @@ module _ (nodes dots : List ℕ) (rects : List ℤ) (row : List ℕ) (found : Fo
 
   module _ (n : not b ≡ true) where
     pub leaf-asks : NodeWalk cell (holding nodes dots rects) found a levels
-        → ChainWalk dots rects (opening found) node.first node.count
+        → ChainWalk (holding nodes dots rects) (opening found) node.first node.count
     leaf-asks w = rw words (go w.tree w.stands w.grows)
       where
         go : (t : Tree) → TreeStands nodes dots rects levels a t → CanGrow found (size t) (node_total t)
-            → ChainWalk dots rects (opening found) (first_at nodes a) (count_at nodes a)
+            → ChainWalk (holding nodes dots rects) (opening found) (first_at nodes a) (count_at nodes a)
         go (leaf chain) s c =
             record {
               chain = chain;
-              stands = chain_rows nodes [] dots rects (first_at nodes a) chain s.represents.1;
+              stands = s.represents.1;
               long = sym s.represents.0;
               dots_in = s.dots_in;
               grows = record { hits = omega (arith, c.hits, s.represents.0, sum_over-one chain); opened = omega (arith, c.opened) };
             }
         go (branch g f) s c = absurd (not-branch nodes a words told n s.represents.0)
 
-    pub leaf_gives : (row' : List ℕ) (r : Found) → ChainWalked q dots rects row (opening found) node.first node.count row' r
+    pub leaf_gives : (row' : List ℕ) (r : Found) → ChainWalked q (holding nodes dots rects) row (opening found) node.first node.count row' r
         → NodeWalked q cell (holding nodes dots rects) row found a levels row' r
     unfolding ChainWalked NodeWalked after row_after
     leaf_gives row' r w = go
@@ -64,7 +63,7 @@ module _ (nodes dots : List ℕ) (rects : List ℤ) (row : List ℕ) (found : Fo
         go : (t : Tree) (d : NodeData) → TreeStands nodes dots rects levels a t → d.cell ≡ cell
             → Left row found (hits q d t) (opened q.rect d t) row' r
         go (leaf chain) d s e =
-            let l = (rw words at w) chain (chain_rows nodes [] dots rects (first_at nodes a) chain s.represents.1) (sym s.represents.0) in
+            let l = (rw words at w) chain s.represents.1 (sym s.represents.0) in
             let more : found.opened + 1 + 0 ≡ found.opened + 1 = omega arith in
             record {
               answer = l.answer ∙ (λ i. record { hits = found.hits + length (chain_hits q chain); opened = more i });

@@ -3,7 +3,6 @@
 --     search_start, search_here, search_on its begin; the next place is there; a turn
 --     search_has   the chain can be walked
 --     search_over, search_found    its two ends
---     unlinked_head, unlinked_later        the words without the dot that was found, by the two ways through the code
 use Rattle.std.specs.Prelude.{◌≡◌, refl, List, [], ◌∷◌, Option, Some, None, true, false, ℕ, zero, suc, ◌-◌}
 use Rattle.std.proofs.Common.{ap, sym, ◌∙◌, subst, arith, eq-eqb, ne_eqb}
 use Rattle.model.specs.declared.Dot.{Dot}
@@ -89,16 +88,3 @@ module _ {dots : List ℕ} {id head count at left : ℕ} {before previous : Opti
               let same : d.place ≡ place = sym k.0 ∙ sym p.here in
               let passed : hit_in id previous (d ∷ ds) ≡ hit_in id (Some d.place) ds = rw (match_other id d.dot (λ x. other (id-here d k.2 ∙ sym x))) in
               (ds, subst (λ (y : ℕ). Linked dots y (left - 1) ds) (sym p.next) k.4, q ∙ passed ∙ ap (λ (y : ℕ). hit_in id (Some y) ds) same)
-
--- ---- the words without the dot that was found, by the two ways through the code
-
-module _ (nodes dots : List ℕ) (a : ℕ) (node : Node) (hit : Hit) {next : ℕ} {nodes' : List ℕ} where
-  pub unlinked_head : hit.previous ≡ None → next ≡ next_at dots hit.place → nodes' ≡ set_node_at nodes a (record { first = next; count = node.count - 1 })
-      → (nodes' ≡ set_node_at nodes a (unlinked_node dots node hit)) × (dots ≡ unlinked_dots dots hit)
-  unlinked_head e n stored =
-      rw e (stored ∙ ap (set_node_at nodes a) (λ i. record { first = n i; count = node.count - 1 }), refl)
-
-  pub unlinked_later : {previous : ℕ} {dots' : List ℕ} → hit.previous ≡ Some previous → next ≡ next_at dots hit.place → dots' ≡ set_next_at dots previous next
-      → nodes' ≡ set_node_at nodes a (record { first = node.first; count = node.count - 1 })
-      → (nodes' ≡ set_node_at nodes a (unlinked_node dots node hit)) × (dots' ≡ unlinked_dots dots hit)
-  unlinked_later {previous} e n linked stored = rw e (stored, linked ∙ ap (set_next_at dots previous) n)

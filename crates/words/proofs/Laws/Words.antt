@@ -1,25 +1,15 @@
 -- Laws of numbers as words.
 --     signed_word  the word of a number stands for that number
 --     wide-words, low_wide, high-wide      two words and their number, both ways
---     signed-near, signed_far      the number that a word stands for
---     added, own_abs       the word of a number
-use Rattle.std.specs.Prelude.{◌≡◌, refl, true, false, ℕ, ◌-◌, ◌≤◌, ◌<◌, ℤ, pos, negsuc, ◌+ℤ◌, ◌-ℤ◌, nat_abs}
+--     added        the word of a number
+use Rattle.std.specs.Prelude.{◌≡◌, refl, true, ℕ, ◌-◌, ◌<◌, ℤ, pos, negsuc, ◌+ℤ◌}
 use Rattle.std.proofs.Common.{ap, arith, SFits, lt-ltb, le-ltb}
 use Rattle.std.specs.Int.Signed.{lt_z}
 use Rattle.std.specs.Int.{w32}
-use Rattle.arithmetic.proofs.Laws.Linear.{ints, sum, dif, known, nat_eq}
+use Rattle.arithmetic.proofs.Laws.Linear.{ints, sum, known, nat_eq}
 use Rattle.words.specs.Words.{signed, word_of, low_word, high_word, wide_of}
 
 -- ---- the number of a word
-
-pub signed-near : (w : ℕ) → w < 2147483648 → signed w ≡ pos w
-unfolding signed
-signed-near w b = rw (lt-ltb w 2147483648 b) refl
-
-module _ (w : ℕ) (word : w < 4294967296) (far : 2147483648 ≤ w) where
-  pub signed_far : pos w -ℤ pos 4294967296 ≡ signed w
-  unfolding signed
-  signed_far = rw (le-ltb w 2147483648 far) (nat_eq _ _ (omega (arith, ints, dif (pos w) (pos 4294967296))))
 
 -- ---- the word of a number
 
@@ -32,10 +22,6 @@ signed_word (negsuc n) f =
 pub added : (z : ℤ) → SFits w32 z → lt_z z (pos 0) ≡ true → z +ℤ pos 4294967296 ≡ pos (word_of z)
 added (pos n) f h = absurd (omega (arith, ints))
 added (negsuc n) f h = nat_eq _ _ (omega (arith, ints, sum (negsuc n) (pos 4294967296), known f))
-
-pub own_abs : (z : ℤ) → lt_z z (pos 0) ≡ false → nat_abs z ≡ word_of z
-own_abs (pos n) h = refl
-own_abs (negsuc n) h = absurd (omega (arith, ints))
 
 -- ---- two words
 

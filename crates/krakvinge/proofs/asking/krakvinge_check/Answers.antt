@@ -1,5 +1,5 @@
 -- A row of another length, or the check.
-use Rattle.krakvinge.proofs.Laws.Exports.{check_other, check_row}
+use Rattle.krakvinge.proofs.Laws.Exports.{check_other, check_row, check_refused}
 use Rattle.krakvinge.proofs.asking.krakvinge_check.Goals as goal
 
 pub returns-then-state-ne12 : goal.returns-then-state-ne12
@@ -11,4 +11,4 @@ returns-in-Ok c = check_row _ _ _ _ _ _ _ _ c.if-state-ne12.false c.state_in-bef
 pub returns-in-Err : goal.returns-in-Err
 returns-in-Err c =
     let found = rw c.in-Err.is at c.check.ensures in
-    check_row _ _ _ _ _ _ _ _ c.if-state-ne12.false c.state_in-before.ensures.0 (rw (c.from.ensures, c.number.ensures.number) found)
+    check_refused _ _ _ _ _ _ _ _ _ c.if-state-ne12.false c.state_in-before.ensures.0 found c.refused-in-Err.ensures

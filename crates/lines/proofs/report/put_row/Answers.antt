@@ -11,4 +11,4 @@ put_window-next-requires c =
     (omega arith, omega arith, omega (arith, end))
 
 pub loop-column-preserved : goal.loop-column-preserved
-loop-column-preserved c = search row_more
+loop-column-preserved c = row_more _ _ _ 0 (omega arith) c.loop-column.invariant c.put_window-next.ensures

@@ -4,4 +4,4 @@ use Rattle.lines.specs.Report.{window_row}
 use Rattle.lines.proofs.report.put_row.Given as goal
 
 abbrev pub invariant-loop-column : goal.invariant-loop-column
-invariant-loop-column l = Put l.initial.out l.at (window_row l.column l.row l.counts l.first) l.out l.next
+invariant-loop-column l = Put l.initial.out l.at (window_row l.column l.row l.counts 0) l.out l.next

@@ -1,15 +1,14 @@
--- The invariant: the lines before a place are answered (`Chunking`), and the rows keep their room. The measure is the bytes left.
+-- The invariant: the lines before a place are answered (`Chunking`). The measure is the bytes left.
 use Rattle.std.proofs.Common.{length, ◌-◌, take}
-use Rattle.ticket.specs.Workspace.{lent_in, HasRoom, SameWorkspace}
+use Rattle.ticket.specs.Workspace.{lent_in, SameWorkspace}
 use Rattle.ticket_io.proofs.Laws.Reading.{Chunking}
 use Rattle.ticket_io.proofs.reads.chunk.Given as goal
 
 abbrev pub invariant-loop-at : goal.invariant-loop-at
 invariant-loop-at g l =
     let i = l.initial in record {
-      so_far : Chunking l.program i.phase (take i.kept i.line) l.bytes (length i.line) (lent_in i.workspace)
+      so_far : Chunking i.workspace.program i.phase (take i.kept i.line) l.bytes (length i.line) (lent_in i.workspace)
           l.phase l.kept l.at l.line (lent_in l.workspace);
-      room : HasRoom l.program l.workspace;
       same_rows : SameWorkspace i.workspace l.workspace;
     }
 

@@ -3,8 +3,8 @@
 use Rattle.tree.proofs.Laws.Descent.{steps_left, Descending}
 use Rattle.tree.proofs.find.find_leaf.Given as goal
 
-abbrev pub invariant-loop-words : goal.invariant-loop-words
-invariant-loop-words l = Descending l.nodes l.rect l.initial.data l.data l.node l.words
+abbrev pub invariant-loop-node : goal.invariant-loop-node
+invariant-loop-node l = Descending l.nodes l.rect l.initial.data l.data l.node l.words
 
-abbrev pub decreases-loop-words : goal.decreases-loop-words
-decreases-loop-words l = steps_left l.data
+abbrev pub decreases-loop-node : goal.decreases-loop-node
+decreases-loop-node l = steps_left l.data

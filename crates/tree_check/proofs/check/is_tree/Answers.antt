@@ -1,28 +1,28 @@
 -- The five ways: the live number, the tree, the free groups, the free places, and the marks of all of them.
-use Rattle.std.proofs.Common.{ap, not, arith, rules}
+use Rattle.std.proofs.Common.{arith, rules}
+use Rattle.memory.specs.Lent.{held}
+use Rattle.tree_check.specs.Regions.{is_blank}
 use Rattle.tree_check.proofs.Laws.Regions.{root-sound}
 use Rattle.tree_check.proofs.Laws.Checks.{Freed, no-live, no-tree, free-ready, no-groups, groups-found, places-ready, no-places, told}
 use Rattle.tree_check.proofs.check.is_tree.Goals as goal
 use Rattle.tree_check.proofs.check.is_tree.Goals.{Else-not-check_free}
 
-freed : (c : Else-not-check_free) → Freed c.args.state c.args.rows.nodes.now c.args.rows.dots.now c.args.rows.rects.now
-    c.args.marks.now c.args.places c.args.groups c.check_free.new.marks
+freed : (c : Else-not-check_free) → Freed c.args.state (held c.args.rows) c.args.marks.now c.check_free.new.marks
 freed c =
-    groups-found c.requires c.root-root.ensures _ _ c.check_node.ensures (ap not c.if-not-check_node.false) _ _
-    c.check_free.ensures (ap not c.if-not-check_free.false)
+    groups-found c.requires c.root-root.ensures _ _ c.check_node.ensures c.if-not-check_node.false _ _ c.check_free.ensures c.if-not-check_free.false
 
 pub returns-then-not-check_chain : goal.returns-then-not-check_chain
 returns-then-not-check_chain c =
     let found = freed (goal.at.returns-then-not-check_chain c).Else-not-check_free in
-    search no-places
+    no-places found (omega arith) _ _ (c.check_chain.ensures is_blank (λ d b e. e.1)) c.if-not-check_chain.true
 
 pub returns : goal.returns
 returns c =
     let found = freed (goal.at.returns c).Else-not-check_free in
-    search told
+    told found (omega arith) _ _ (c.check_chain.ensures is_blank (λ d b e. e.1)) c.if-not-check_chain.false (omega arith) (omega arith) _ c.all_marked.ensures
 
 pub returns-then-live-places : goal.returns-then-live-places
-returns-then-live-places c = search (rules, no-live)
+returns-then-live-places c = no-live c.requires (omega arith)
 
 pub check_node-requires : goal.check_node-requires
 check_node-requires c = (search, search root-sound, omega arith)
@@ -36,5 +36,5 @@ check_free-requires c = search (rules, free-ready)
 pub returns-then-not-check_free : goal.returns-then-not-check_free
 returns-then-not-check_free c = search (rules, no-groups)
 
-pub check_chain-requires : goal.check_chain-requires
-check_chain-requires c = places-ready (freed (goal.at.check_chain-requires c).Else-not-check_free)
+pub check_chain-requires-clause-ready : goal.check_chain-requires-clause-ready
+check_chain-requires-clause-ready c = places-ready (freed (goal.at.check_chain-requires-clause-ready c).Else-not-check_free)

@@ -1,4 +1,5 @@
 use Rattle.std.proofs.Common.{rules, arith, ◌<◌, ◌≤◌, ◌+◌}
+use Rattle.memory.specs.Lent.{held}
 use Rattle.tree_check.specs.Trees.{GroupReady}
 use Rattle.tree_check.proofs.Laws.Regions.{levels, sound-below, levels-below, levels-some, shallow-depth}
 use Rattle.tree_check.proofs.Laws.Trees.{marked-ready, group-given, leaf-over, leaf-scanned, no-split, no-group, seen_group, branch-scanned}
@@ -45,23 +46,23 @@ check_node-returns-then-not-splits t c = search (no-split, rules)
 pub check_node-returns-in_default : goal.check_node-returns-in_default
 check_node-returns-in_default t c = let none_at = c.in_default.ensures in search (no-group, rules)
 
-pub check_node-returns-then-marks-places-ne0 : goal.check_node-returns-then-marks-places-ne0
-check_node-returns-then-marks-places-ne0 t c = search (seen_group, rules)
+pub check_node-returns-then-not-mark : goal.check_node-returns-then-not-mark
+check_node-returns-then-not-mark t c = search (seen_group, rules)
 
 pub check_node-check_group-requires : goal.check_node-check_group-requires
 check_node-check_group-requires t c =
     let at = c.in-Some.ensures in
-    let given : GroupReady c.args.region c.args.groups c.in-Some.group 5 = search group-given in
+    let given : GroupReady c.args.region (held c.args.rows) c.in-Some.group = search group-given in
     let one : 1 ≤ levels c.args.region = levels-some given in
-    (omega arith, (search marked-ready, given))
+    (omega arith, (marked-ready c.requires.0 at.0 (omega arith) c.mark.ensures c.if-not-mark.false, given))
 
 -- a leaf: too many dots; its chain
 pub check_node-returns-then-splits-words : goal.check_node-returns-then-splits-words
 check_node-returns-then-splits-words t c = search (leaf-over, rules)
 
 -- the two answers
-pub check_node-returns-else-marks-places-ne0 : goal.check_node-returns-else-marks-places-ne0
-check_node-returns-else-marks-places-ne0 t c = search (branch-scanned, rules)
+pub check_node-returns-else-not-mark : goal.check_node-returns-else-not-mark
+check_node-returns-else-not-mark t c = search (branch-scanned, rules)
 
 pub check_node-returns-else-splits-words : goal.check_node-returns-else-splits-words
 check_node-returns-else-splits-words t c =

@@ -2,6 +2,7 @@
 -- The measure of a node is twice the levels that are left below it; of a group, one more than that of its children.
 -- The loop's invariant: what is left to check leads to the whole (`Ahead`).
 use Rattle.std.proofs.Common.{◌*◌, ◌+◌, ◌-◌}
+use Rattle.memory.specs.Lent.{held}
 use Rattle.tree_check.proofs.Laws.Regions.{levels}
 use Rattle.tree_check.proofs.Laws.Groups.{Ahead}
 use Rattle.tree_check.proofs.tree.+check_group_check_node.Given as goal
@@ -13,5 +14,4 @@ abbrev pub decreases-check_node : goal.decreases-check_node
 decreases-check_node l = 2 * levels l.region
 
 abbrev pub invariant-check_group-loop-child : goal.invariant-check_group-loop-child
-invariant-check_group-loop-child l =
-    Ahead l.region l.rows.nodes.now l.rows.dots.now l.rows.rects.now l.places l.groups l.group l.initial.marks l.marks l.child
+invariant-check_group-loop-child l = Ahead l.region (held l.rows) l.group l.initial.marks l.marks l.child

@@ -1,5 +1,5 @@
 -- The refusals in their order, then the counts.
-use Rattle.std.proofs.Common.{ap, not}
+use Rattle.std.proofs.Common.{ap, not, rules}
 use Rattle.tree_grid.proofs.Laws.Reports.{held, report_eleven, report-twelve, report-many, report-counted}
 use Rattle.tree_grid.proofs.report.report_row.Goals as goal
 
@@ -16,4 +16,5 @@ returns-then-row-windows c = report-many c.args.state c.args.rects.now c.args.gr
 
 pub returns : goal.returns
 returns c = report-counted c.args.state c.args.rects.now c.args.grid _ (held c.sizes_fit.ensures (ap not c.if-not-sizes_fit.false))
-    (held c.corner_fits.ensures (ap not c.if-not-corner_fits.false)) c.windows-windows.ensures _ _ c.if-row-windows.false c.count_windows.ensures
+    (held c.corner_fits.ensures (ap not c.if-not-corner_fits.false)) c.windows-windows.ensures _ c.if-row-windows.false
+    c.count_windows.ensures.totalled (search rules)

@@ -1,7 +1,7 @@
-use Rattle.std.proofs.Common.{inl, inr, refl, ◌∙◌}
+use Rattle.std.proofs.Common.{refl, rules, ◌∙◌}
 use Rattle.memory.proofs.Laws.Chains.{passed}
 use Rattle.tree.proofs.Laws.Chains.{stands_has}
-use Rattle.tree_insert.proofs.Laws.SplitsNeeded.{tally_start, tally_here, tally_on, tally_over}
+use Rattle.tree_insert.proofs.Laws.SplitsNeeded.{tally_start, tally_here, tally_fits, tally_on, tally_over}
 use Rattle.tree_insert.proofs.needed.count_within.Goals as goal
 
 pub loop-place-init : goal.loop-place-init
@@ -13,16 +13,6 @@ loop-place-init c =
 pub rect_at-requires : goal.rect_at-requires
 rect_at-requires c = tally_here c.loop-place.invariant.3 c.requires (passed c.loop-place.invariant.2 c.in-Some.ensures.steps.1)
 
-pub loop-place-preserved-then-holds : goal.loop-place-preserved-then-holds
-loop-place-preserved-then-holds c =
-    let step = c.in-Some.ensures.steps in
-    let same = c.loop-place.invariant.2 in (
-      c.in-Some.ensures.goes.keeps,
-      tt,
-      step.0 ∙ same,
-      tally_on c.loop-place.invariant.3 (passed same step.1) c.rect_at.ensures c.holds.ensures (inl (c.if-holds.true, refl)),
-    )
-
 pub loop-place-preserved : goal.loop-place-preserved
 loop-place-preserved c =
     let step = c.in-Some.ensures.steps in
@@ -30,8 +20,13 @@ loop-place-preserved c =
       c.in-Some.ensures.goes.keeps,
       tt,
       step.0 ∙ same,
-      tally_on c.loop-place.invariant.3 (passed same step.1) c.rect_at.ensures c.holds.ensures (inr (c.if-holds.false, refl)),
+      tally_on c.loop-place.invariant.3 (passed same step.1) _ c.from-count.ensures c.rect_at.ensures c.holds.ensures,
     )
+
+pub overflow_add-count : goal.overflow_add-count
+overflow_add-count c =
+    let here = passed c.loop-place.invariant.2 c.in-Some.ensures.steps.1 in
+    tally_fits c.loop-place.invariant.3 here c.holds.result c.from-count.ensures (search rules)
 
 pub returns : goal.returns
 returns c = tally_over c.loop-place.invariant.3 c.in-None.ensures.steps

@@ -9,7 +9,7 @@ few : (c : Start) → c.args.patch.columns ≤ 64
 few c = (sides _ c.requires.0.progress.fits).few_columns
 
 pub next_dot-column-requires : goal.next_dot-column-requires
-next_dot-column-requires c = (c.requires.2, few (goal.at.next_dot-column-requires c).Start, omega arith)
+next_dot-column-requires c = (few (goal.at.next_dot-column-requires c).Start, omega arith)
 
 pub loop-column-init : goal.loop-column-init
 loop-column-init c =
@@ -27,7 +27,7 @@ overflow_add-column c = omega (arith, c.loop-column-test.true, few (goal.at.over
 
 pub next_dot-column-requires-in-loop-column : goal.next_dot-column-requires-in-loop-column
 next_dot-column-requires-in-loop-column c =
-    (c.requires.2, few (goal.at.next_dot-column-requires-in-loop-column c).Start, omega (arith, c.loop-column-test.true))
+    (few (goal.at.next_dot-column-requires-in-loop-column c).Start, omega (arith, c.loop-column-test.true))
 
 pub loop-column-preserved : goal.loop-column-preserved
 loop-column-preserved c =

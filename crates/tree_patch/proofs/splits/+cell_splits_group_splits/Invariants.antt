@@ -13,4 +13,4 @@ decreases-group_splits l = 2 * (l.cell.levels - 1) + 1
 
 abbrev pub invariant-group_splits-loop-child : goal.invariant-group_splits-loop-child
 invariant-group_splits-loop-child l =
-    (1 ≤ l.child) × Ahead l.settings l.rows.nodes.now l.rows.dots.now l.rows.rects.now l.cell l.patch l.sums l.splits (5 - l.child)
+    (1 ≤ l.child) × Ahead l.settings l.rows.nodes.now l.rows.dots.now l.rows.rects.now l.cell l.tiled.patch l.splits (5 - l.child)

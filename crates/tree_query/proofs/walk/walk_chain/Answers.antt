@@ -7,10 +7,10 @@ pub loop-place-init : goal.loop-place-init
 loop-place-init c =
     let new = c.new-place-items.ensures in
     rw (c.into_iter-place-iterator.ensures.into_iter_gives, new.0, new.1, new.2)
-    (has-chain c.requires, tt, refl, rest-start _ _ _ c.requires.grows.hits)
+    (has-chain c.requires, tt, refl, rest-start _ _ c.requires.grows.hits)
 
-pub dot_at-requires : goal.dot_at-requires
-dot_at-requires c = rest-place _ _ _ c.loop-place.invariant.3 (passed c.loop-place.invariant.2 c.in-Some.ensures.steps.1) c.requires
+pub dot_at-dot-requires : goal.dot_at-dot-requires
+dot_at-dot-requires c = rest-place _ _ c.loop-place.invariant.3 (passed c.loop-place.invariant.2 c.in-Some.ensures.steps.1) c.requires
 
 pub loop-place-preserved : goal.loop-place-preserved
 loop-place-preserved c =
@@ -19,8 +19,8 @@ loop-place-preserved c =
       c.in-Some.ensures.goes.keeps,
       tt,
       step.0 ∙ same,
-      rest-turn _ _ _ c.loop-place.invariant.3 (passed same step.1) c.dot_at.ensures c.list_dot-hits.ensures.0 c.list_dot-hits.ensures.1,
+      rest-turn _ _ c.loop-place.invariant.3 (passed same step.1) c.dot_at-dot.ensures c.list_dot-hits.ensures.0 c.list_dot-hits.ensures.1,
     )
 
 pub returns : goal.returns
-returns c = rest_end _ _ _ c.args.found c.loop-place.invariant.3 c.in-None.ensures.steps
+returns c = rest_end _ _ c.args.found c.loop-place.invariant.3 c.in-None.ensures.steps

@@ -1,6 +1,0 @@
--- The invariant: the places before `place` have been added, the zero rectangles left out.
-use Rattle.tree_grid.proofs.Laws.Places.{Passing}
-use Rattle.tree_grid.proofs.places.add_places.Given as goal
-
-abbrev pub invariant-loop-place : goal.invariant-loop-place
-invariant-loop-place l = Passing l.grid l.rects l.places l.initial.row l.row l.pass l.place
