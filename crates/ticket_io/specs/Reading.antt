@@ -3,13 +3,12 @@
 --     ReadAnswered, ReadOn         one read, or the input's end, or a read that failed
 --     Reading      the reads so far
 --     ticket_lines, AllAnswered     THE STATEMENT for a run: there are bytes, in some pieces, whose lines are those that were answered
---     RowsAnswered         the same of the rows that a program lends
-use Rattle.std.specs.Prelude.{◌≡◌, Option, Some, None, List, [], ◌∷◌, ℕ, ◌≤◌, length, take, replicate, pos}
+use Rattle.std.specs.Prelude.{◌≡◌, Option, Some, None, List, [], ◌∷◌, ℕ, ◌≤◌, length, take}
 use Rattle.line_reader.specs.Cut.{lines, joined, progress, read_bytes, read_pieces, hand_out}
 use Rattle.ticket.specs.declared.Program.{Program}
 use Rattle.ticket.specs.declared.Phase.{Phase}
 use Rattle.ticket.specs.declared.Phase.TheVariants as phase
-use Rattle.ticket.specs.Turns.{Lent, lent, Turns}
+use Rattle.ticket.specs.Turns.{Lent, Turns}
 use Rattle.ticket_end.specs.declared.Progress.{Progress}
 use Rattle.ticket_end.specs.End.{end_phase, Finished}
 
@@ -52,10 +51,3 @@ pub record AllAnswered (p : Program) (l : Lent) (l' : Lent) : Type 0 where
   pub last : Phase
   pub turns : Turns p phase.First l (ticket_lines (lines (joined pieces))) last l'
   pub ends : end_phase last ≡ phase.Ended
-
--- such a run on a tree's rows of zeros: what it leaves in the row of words and in that of bytes
-pub record RowsAnswered (p : Program) (row out row' out' : List ℕ) : Type 0 where
-  pub left : Lent
-  pub answered : AllAnswered p (lent (replicate 5122 0) (replicate 3072 0) (replicate 4096 (pos 0)) (replicate 1536 0) row out) left
-  pub row_left : row' ≡ left.row
-  pub out_left : out' ≡ left.out
