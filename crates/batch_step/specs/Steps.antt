@@ -7,8 +7,6 @@
 use Rattle.std.specs.Prelude.{◌≡◌, List, ℕ, set}
 use Rattle.model.specs.declared.Dot.{Dot}
 use Rattle.model.specs.declared.Record.{Record}
-use Rattle.model.specs.declared.Kind.{Kind}
-use Rattle.model.specs.declared.Kind.TheVariants as kind
 use Rattle.model.specs.declared.State.{State}
 use Rattle.model.specs.Dots.{zero_dot}
 use Rattle.model.specs.Shapes.{Shape}
@@ -17,7 +15,7 @@ use Rattle.model.specs.Calls.{Reply, refused, too_many, answered, Recorded, refu
 use Rattle.memory.specs.Lent.{Held, world_of}
 use Rattle.tree_check.specs.Checks.{Checked}
 
-abbrev pub record_of : Kind → Dot → Record
+abbrev pub record_of : ℕ → Dot → Record
 record_of kind dot = record { kind = kind; dot = dot }
 
 -- §10.4: the answer word of a reply
@@ -34,7 +32,7 @@ RecordCarriedOut rule s h s' h' word =
 
 -- stands where a row has no record
 abbrev pub no_record : Record
-no_record = record { kind = kind.Insert; dot = zero_dot }
+no_record = record { kind = 0; dot = zero_dot }
 
 -- §10.3, §10.5: a record's word in its place of the row, and the state that the next record gets
 pub record Stepped (r : Record) (i : ℕ) (s : State) (answers : List ℕ) (h : Held) (s' : State) (answers' : List ℕ) (h' : Held) : Type 0 where

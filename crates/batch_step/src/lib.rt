@@ -5,7 +5,6 @@ pub mod all;
 
 ghost use Rattle.std.specs.Prelude.{◌≡◌, ◌<◌, length};
 ghost use Rattle.model.specs.declared.Dot.{Dot};
-ghost use Rattle.model.specs.declared.Kind.TheVariants as kind;
 ghost use Rattle.model.specs.Calls.{carry_out, refused_word, yes_no};
 ghost use Rattle.model.specs.Refusals.{number_of, refusal_number};
 ghost use Rattle.model.specs.Answers.{change_reply, change_state, yes_no_reply, yes_no_state};
@@ -73,7 +72,7 @@ fn said_record(state: State, answer: Result<Option<State>, Refusal>) -> Recorded
 fn insert_record(state: State, rows: &mut RowsMut<'_>, dot: Dot) -> Recorded
     requires { IsTree state (held_mut rows.old) }
     ensures same_rows { SameRows rows.old rows.new }
-    ensures carried_out { RecordCarriedOut (carry_out (record_of kind.Insert dot)) state (held_mut rows.old) result.state (held_mut rows.new) result.word }
+    ensures carried_out { RecordCarriedOut (carry_out (record_of 0 dot)) state (held_mut rows.old) result.state (held_mut rows.new) result.word }
 {
     let answer = insert_dot(state, rows, dot);
     splits_record(state, answer)
@@ -83,7 +82,7 @@ fn insert_record(state: State, rows: &mut RowsMut<'_>, dot: Dot) -> Recorded
 fn remove_record(state: State, rows: &mut RowsMut<'_>, dot: Dot) -> Recorded
     requires { IsTree state (held_mut rows.old) }
     ensures same_rows { SameRows rows.old rows.new }
-    ensures carried_out { RecordCarriedOut (carry_out (record_of kind.Remove dot)) state (held_mut rows.old) result.state (held_mut rows.new) result.word }
+    ensures carried_out { RecordCarriedOut (carry_out (record_of 1 dot)) state (held_mut rows.old) result.state (held_mut rows.new) result.word }
 {
     let answer = remove_dot(state, rows, dot.id, dot.rect);
     said_record(state, answer)
@@ -93,7 +92,7 @@ fn remove_record(state: State, rows: &mut RowsMut<'_>, dot: Dot) -> Recorded
 fn cleanup_record(state: State, rows: &mut RowsMut<'_>) -> Recorded
     requires { IsTree state (held_mut rows.old) }
     ensures same_rows { SameRows rows.old rows.new }
-    ensures carried_out { (dot : Dot) → RecordCarriedOut (carry_out (record_of kind.Cleanup dot)) state (held_mut rows.old)
+    ensures carried_out { (dot : Dot) → RecordCarriedOut (carry_out (record_of 2 dot)) state (held_mut rows.old)
         result.state (held_mut rows.new) result.word }
 {
     let answer = cleanup_tree(state, rows.nodes);
@@ -107,7 +106,7 @@ fn carry_out(state: State, rows: &mut RowsMut<'_>, record: Record) -> Recorded
     ensures carried_out { RecordCarriedOut (carry_out «record») state (held_mut rows.old) result.state (held_mut rows.new) result.word }
 {
     let dot = record.dot;
-    match record.kind {
+    match Kind::from(record.kind) {
         Kind::Insert => insert_record(state, rows, dot),
         Kind::Remove => remove_record(state, rows, dot),
         Kind::Cleanup => cleanup_record(state, rows),

@@ -5,7 +5,7 @@ ghost use Rattle.arithmetic.specs.Ints.{natural};
 ghost use Rattle.grid.specs.Grids.{edge};
 ghost use Rattle.grid.specs.Spans.{first_met, past_met, span_met};
 
-use std::ops::Range;
+use crate::grid::Span;
 
 // Where the first window begins, the windows' size, and how many there are.
 #[derive(Clone, Copy, Debug, PartialEq, Eq)]
@@ -63,8 +63,8 @@ impl Axis {
         i64::from(self.first) + (along as i64) <= 1073741823
     }
 
-    // The windows that the interval from a to b meets: from a number on and before another, none if that is no larger.
-    pub fn met(self, touching: bool, a: i32, b: i32) -> Range<u32>
+    // The windows that the interval from a to b meets.
+    pub fn met(self, touching: bool, a: i32, b: i32) -> Span
         requires { 1 ≤ natural self.size }
         ensures { result ≡ span_met touching self.first (natural self.size) (natural self.number) a b }
     {
@@ -72,6 +72,6 @@ impl Axis {
         let number = self.count();
         let from = at_most(first_met(touching, self.first, size, a), number);
         let to = at_most(past_met(touching, self.first, size, b), number);
-        from..to
+        Span { from, to }
     }
 }

@@ -1,11 +1,10 @@
 // The grid of a report: where its first window begins, the windows' size, and how many there are in a row and in a column.
 ghost use Rattle.std.specs.Prelude.{◌≡◌, true};
 ghost use Rattle.grid.specs.Grids.{columns_of, rows_of, windows, sizes_fit, corner_fits};
-ghost use Rattle.grid.specs.Spans.{columns_met, rows_met, across_axis, down_axis};
+ghost use Rattle.grid.specs.Spans.{columns_met, rows_met, span_length, across_axis, down_axis};
 
 use crate::axis::Axis;
 use geometry::aabb::AABB;
-use std::ops::Range;
 
 // Of any numbers: §19.3 says which are in range.
 #[derive(Clone, Copy, Debug, PartialEq, Eq)]
@@ -16,6 +15,22 @@ pub struct Grid {
     pub height: i32,
     pub columns: i32,
     pub rows: i32,
+}
+
+// The windows on one axis from a number on and before another: none, if `to` is no larger.
+#[derive(Clone, Copy, Debug, PartialEq, Eq)]
+pub struct Span {
+    pub from: u32,
+    pub to: u32,
+}
+
+impl Span {
+    // How many windows.
+    pub fn length(self) -> u32
+        ensures { result ≡ span_length self }
+    {
+        self.to.saturating_sub(self.from)
+    }
 }
 
 impl Grid {
@@ -80,7 +95,7 @@ impl Grid {
     }
 
     // The columns that a rectangle meets (§19.2): a touch is enough where it is flat.
-    pub fn columns_met(self, rect: AABB) -> Range<u32>
+    pub fn columns_met(self, rect: AABB) -> Span
         requires { sizes_fit self ≡ true }
         ensures { result ≡ columns_met self rect }
     {
@@ -88,7 +103,7 @@ impl Grid {
     }
 
     // The rows that a rectangle meets (§19.2).
-    pub fn rows_met(self, rect: AABB) -> Range<u32>
+    pub fn rows_met(self, rect: AABB) -> Span
         requires { sizes_fit self ≡ true }
         ensures { result ≡ rows_met self rect }
     {

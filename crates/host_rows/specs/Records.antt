@@ -5,7 +5,6 @@
 --     batch_fits    a state row of twelve words, and whole records
 use Rattle.std.specs.Prelude.{List, [], ◌∷◌, Bool, ◌&&◌, ℕ, ◌+◌, ◌*◌, ◌/◌, ◌%◌, eqb, length, get_or}
 use Rattle.model.specs.declared.Record.{Record}
-use Rattle.model.specs.Kinds.{kind_of}
 use Rattle.model.specs.Lists.{join_below}
 use Rattle.host_rows.specs.Rows.{dot_in}
 
@@ -13,7 +12,7 @@ abbrev pub record_words : ℕ
 record_words = 7
 
 unfoldable pub record_in : List ℕ → ℕ → Record
-record_in row i = record { kind = kind_of (get_or row (7 * i) 0); dot = dot_in row (7 * i + 1) }
+record_in row i = record { kind = get_or row (7 * i) 0; dot = dot_in row (7 * i + 1) }
 
 unfoldable pub records_in : List ℕ → List Record
 records_in row = join_below (length row / record_words) (λ i. record_in row i ∷ [])

@@ -3,7 +3,7 @@ ghost use Rattle.std.specs.Prelude.{◌≡◌, ◌+◌, ◌*◌, ◌<◌, length
 ghost use Rattle.host_rows.specs.Records.{record_in, batch_fits};
 
 use crate::rows::dot_in;
-use model::{Kind, Record};
+use model::Record;
 
 // The record of place i.
 pub fn record_in(records: &[u32], i: usize) -> Record
@@ -13,7 +13,7 @@ pub fn record_in(records: &[u32], i: usize) -> Record
     let at = 7 * i;
     let dot = dot_in(records, at + 1);
     Record {
-        kind: Kind::from(records[at]),
+        kind: records[at],
         dot,
     }
 }

@@ -21,6 +21,7 @@ use Rattle.geometry.specs.Settings.{root_of, in_range, contains, root_rect}
 use Rattle.grid.specs.declared.grid.Grid.{Grid}
 use Rattle.grid.specs.Grids.{windows, sizes_fit, corner_fits}
 use Rattle.model.specs.Dots.{good_ink, of_all_inks}
+use Rattle.model.specs.Kinds.{kind_of}
 use Rattle.model.specs.Trees.{size}
 use Rattle.model.specs.Shapes.{Shape, fresh, inserted, splits_made, splits_needed, removed, found_by}
 use Rattle.model.specs.Shapes.{cleaned, cleans, listed, opens_for, all_ids, leaves, leaf_number, references}
@@ -177,7 +178,7 @@ carry_out_as kind.Cleanup dot x = recorded yes_no x (cleanup_rule x)
 carry_out_as kind.Unknown dot x = record { shape = x; word = refused_word 9 }
 
 unfoldable pub carry_out : Record → Shape → Recorded
-carry_out r x = carry_out_as r.kind r.dot x
+carry_out r x = carry_out_as (kind_of r.kind) r.dot x
 
 -- §10.3: record after record, each on what the one before left
 abbrev pub batch_shape : List Record → Shape → Shape

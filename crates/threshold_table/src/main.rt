@@ -31,13 +31,13 @@ fn threshold(column: u32, row: u32) -> u32
     64 * first + 16 * second + 4 * third + fourth
 }
 
+// A write that failed is told at the end; those after it are made all the same.
 fn main(rt: HostRuntime) -> io::Result<()> {
-    println!(rt;
-        "// The thresholds of a tile, row by row. A static: a read of an element copies no other."
-    )?;
-    println!(rt; "pub static THRESHOLDS: [u8; 256] = [")?;
+    let mut written = println!(rt;
+        "// The thresholds of a tile, row by row.\npub const THRESHOLDS: [u8; 256] = ["
+    );
     for place in 0u32..256 {
-        println!(rt; "    {},", threshold(place % 16, place / 16))?;
+        written = println!(rt; "    {},", threshold(place % 16, place / 16)).and(written);
     }
-    println!(rt; "];")
+    println!(rt; "];").and(written)
 }

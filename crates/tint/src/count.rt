@@ -28,13 +28,13 @@ fn corners_within(first: i32, over: i32, upto: i32, number: u32) -> Range<u32>
     from..to
 }
 
-impl TiledPatch {
+impl TiledPatch<'_> {
     // The dots left of a column and above a row: those of whole tiles, and of the rest beside and below them.
     fn dots_before(&self, column: u32, row: u32) -> u32
         requires { (column ≤ 1024) × (row ≤ 1024) }
         ensures { result ≡ count_before self.now.patch.tint column row }
     {
-        let sums = &self.sums;
+        let sums = self.sums;
         let tint = self.patch.tint;
         let across = column / 16;
         let down = row / 16;

@@ -41,22 +41,22 @@ pub fn fill_sums(sums: &mut [u32; SUMS], tint: u32)
     }
 }
 
-// A patch that refusal 13 lets pass, with the sums of one of its tiles.
+// A patch that refusal 13 lets pass, with the sums of one of its tiles. Their table is lent: one of its own would be copied into the value.
 #[derive(Drop)]
-pub struct TiledPatch {
+pub struct TiledPatch<'a> {
     pub patch: Patch,
-    pub sums: [u32; SUMS],
+    pub sums: &'a [u32; SUMS],
     pub ghost fits: { patch_fits patch ≡ true },
-    pub ghost summed: { TileSums patch.tint sums },
+    pub ghost summed: { TileSums patch.tint sums.now },
 }
 
-impl TiledPatch {
-    pub fn new(patch: Patch) -> TiledPatch
+impl<'a> TiledPatch<'a> {
+    // Fills the table, whatever it held.
+    pub fn new(patch: Patch, sums: &'a mut [u32; SUMS]) -> TiledPatch<'a>
         requires { patch_fits patch ≡ true }
         ensures { result.patch ≡ patch }
     {
-        let mut sums = [0; SUMS];
-        fill_sums(&mut sums, patch.tint);
+        fill_sums(sums, patch.tint);
         TiledPatch { patch, sums }
     }
 }

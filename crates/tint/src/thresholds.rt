@@ -6,12 +6,15 @@ ghost use Rattle.tint.specs.Rows.{NextDot};
 use crate::table::THRESHOLDS;
 use model::patch::Patch;
 
+// The table that is read: of a static, a read of an element copies no other.
+static TABLE: [u8; 256] = THRESHOLDS;
+
 // The threshold at a column and a row of a patch (docs/SPECIFICATION.md §20.2).
 #[tactic(auto, unfolding(model::specs::Thresholds::thresholds, model::specs::Thresholds::threshold_at))]
 pub fn threshold_at(column: u32, row: u32) -> u8
     ensures { result ≡ threshold_at column row }
 {
-    THRESHOLDS[(16 * (row % 16) + column % 16) as usize]
+    TABLE[(16 * (row % 16) + column % 16) as usize]
 }
 
 // Whether there is a dot (§20.3).

@@ -8,7 +8,7 @@ use Rattle.std.specs.Prelude.{◌≡◌, List, ◌++◌, cond, ◌&&◌, ℕ, �
 use Rattle.geometry.specs.declared.aabb.AABB.{AABB}
 use Rattle.geometry.specs.Rectangles.{same_rect, zero_rect}
 use Rattle.grid.specs.declared.grid.Grid.{Grid}
-use Rattle.std.specs.declared.ops.Range.{Range}
+use Rattle.grid.specs.declared.grid.Span.{Span}
 use Rattle.grid.specs.Grids.{columns_of}
 use Rattle.grid.specs.Spans.{in_span, columns_met, rows_met, span_length}
 use Rattle.model.specs.Sums.{sum_below}
@@ -35,7 +35,7 @@ abbrev pub between : ℕ → ℕ → ℕ → ℕ → ℕ
 between from to weight i = cond (leb from i && ltb i to) weight 0
 
 -- word i is that of the column i mod columns and the row i div columns
-abbrev pub cells : ℕ → Range ℕ → Range ℕ → ℕ → ℕ → ℕ
+abbrev pub cells : ℕ → Span → Span → ℕ → ℕ → ℕ
 cells columns across down weight i = cond (in_span across (i % columns) && in_span down (i / columns)) weight 0
 
 abbrev pub weight_of : Grid → AABB → ℕ → ℕ → ℕ

@@ -4,8 +4,7 @@ ghost use Rattle.grid.specs.Grids.{windows, sizes_fit};
 ghost use Rattle.tree_grid.specs.Counts.{Added, Room, between, cells};
 
 use geometry::aabb::AABB;
-use grid::grid::Grid;
-use std::ops::Range;
+use grid::grid::{Grid, Span};
 
 // Adds to the words from a place on and before another. By their numbers, since `row[from..to]` would ask that from is no larger than to.
 fn add_between(row: &mut [u32], from: usize, to: usize, weight: u32)
@@ -18,14 +17,14 @@ fn add_between(row: &mut [u32], from: usize, to: usize, weight: u32)
 }
 
 // Adds to the words of these columns in each of these rows.
-fn add_cells(row: &mut [u32], columns: usize, across: Range<u32>, down: Range<u32>, weight: u32)
-    requires { (1 ≤ columns) × (across.end ≤ columns) × (columns * down.end ≤ length row.old) × Room 0 (columns * down.end) weight row.old }
+fn add_cells(row: &mut [u32], columns: usize, across: Span, down: Span, weight: u32)
+    requires { (1 ≤ columns) × (across.to ≤ columns) × (columns * down.to ≤ length row.old) × Room 0 (columns * down.to) weight row.old }
     ensures { Added row.old (cells columns across down weight) row.new }
 {
-    let first = across.start as usize;
-    let past = across.end as usize;
-    let end = down.end as usize;
-    for line in down.start as usize..end {
+    let first = across.from as usize;
+    let past = across.to as usize;
+    let end = down.to as usize;
+    for line in down.from as usize..end {
         let start = columns * line;
         add_between(row, start + first, start + past, weight);
     }
@@ -44,6 +43,7 @@ impl Counts<'_> {
     ghost use Rattle.tree_grid.specs.Passes.{RectAdded};
 
     // Adds a rectangle as often as its weight says to the windows that it meets; answers how many these are, by arithmetic.
+    #[tactic(auto, using(crate::proofs::Laws::Rects::rect_weighs))]
     pub fn add_rect(&mut self, rect: AABB, weight: u32) -> u64
         requires { (weight ≤ 65536) × Room 0 (windows self.old.grid) weight self.old.row.now }
         ensures { RectAdded rect weight self.old self.new result }
@@ -51,7 +51,7 @@ impl Counts<'_> {
         let grid = self.grid;
         let across = grid.columns_met(rect);
         let down = grid.rows_met(rect);
-        let met = across.len() as u64 * down.len() as u64;
+        let met = u64::from(across.length()) * u64::from(down.length());
         add_cells(self.row, grid.column_count() as usize, across, down, weight);
         u64::from(weight) * met
     }

@@ -22,7 +22,7 @@ use model::answers::Changed;
 use model::patch::Patch;
 use model::refusal::Refusal;
 use tint::count::{dots_number, ids_fit, unit_bounds};
-use tint::sums::TiledPatch;
+use tint::sums::{SUMS, TiledPatch};
 
 // Whether no dot of the patch would be refused in its turn. Nothing is stored: the splits of all dots together do not depend on their order.
 fn can_lay(state: State, rows: Rows<'_>, patch: Patch) -> bool
@@ -38,7 +38,8 @@ fn can_lay(state: State, rows: Rows<'_>, patch: Patch) -> bool
     if places_in(rows.dots) < live {
         return false;
     }
-    let tiled = TiledPatch::new(patch);
+    let mut sums = [0; SUMS];
+    let tiled = TiledPatch::new(patch, &mut sums);
     if tiled.dots_within(unit_bounds(state.settings)) < number {
         return false;
     }

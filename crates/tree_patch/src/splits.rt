@@ -71,7 +71,7 @@ fn is_overfull(settings: Settings, rows: Rows<'_>, chain: Node, cell: Cell, laid
 
 // The splits at a cell and below it.
 #[cycle(cell_splits_group_splits)]
-fn cell_splits(settings: Settings, rows: Rows<'_>, cell: Cell, tiled: &TiledPatch) -> u32
+fn cell_splits(settings: Settings, rows: Rows<'_>, cell: Cell, tiled: &TiledPatch<'_>) -> u32
     requires { CellCount settings (held rows) cell tiled.now.patch }
     ensures { CellCounted settings (held rows.entry) cell tiled.now.patch result }
 {
@@ -91,7 +91,7 @@ fn cell_splits(settings: Settings, rows: Rows<'_>, cell: Cell, tiled: &TiledPatc
 
 // Those at the children but child 0, and below them.
 #[cycle(cell_splits_group_splits)]
-fn group_splits(settings: Settings, rows: Rows<'_>, cell: Cell, tiled: &TiledPatch) -> u32
+fn group_splits(settings: Settings, rows: Rows<'_>, cell: Cell, tiled: &TiledPatch<'_>) -> u32
     requires { GroupCount settings (held rows) cell 4 tiled.now.patch }
     ensures { GroupCounted settings (held rows.entry) cell 4 tiled.now.patch result }
 {
@@ -104,7 +104,7 @@ fn group_splits(settings: Settings, rows: Rows<'_>, cell: Cell, tiled: &TiledPat
 }
 
 // The splits that all dots of a patch make together, where insert accepts their rectangles.
-pub fn patch_splits(state: State, rows: Rows<'_>, tiled: &TiledPatch) -> u32
+pub fn patch_splits(state: State, rows: Rows<'_>, tiled: &TiledPatch<'_>) -> u32
     requires { IsTree state (held rows) × AllAcceptable state.settings tiled.now.patch }
     ensures { PatchCounted state (held rows.entry) tiled.now.patch result }
 {

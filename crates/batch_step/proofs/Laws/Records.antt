@@ -8,8 +8,6 @@ use Rattle.std.proofs.Common.{sym, ◌∙◌, subst, subst₂}
 use Rattle.model.specs.declared.Dot.{Dot}
 use Rattle.model.specs.declared.Record.{Record}
 use Rattle.model.specs.declared.State.{State}
-use Rattle.model.specs.declared.Kind.{Kind}
-use Rattle.model.specs.declared.Kind.TheVariants as kind
 use Rattle.model.specs.declared.answers.Changed.{Changed}
 use Rattle.model.specs.declared.refusal.Refusal.{Refusal}
 use Rattle.model.specs.Shapes.{Shape}
@@ -54,38 +52,40 @@ module _ {A : Type 0} (word : A → ℕ) (rule : Shape → Verdict ℕ A) (r : R
 module _ {s u : State} {h h' : Held} {n : ℕ} where
   pub insert_done : (dot : Dot) (a : Result Changed Refusal) → CarriedOut (insert_rule dot) s h (change_state s a) h' (change_reply a)
       → (n ≡ reply_word (λ m. m) (change_reply a)) × (u ≡ change_state s a)
-      → RecordCarriedOut (carry_out (record_of kind.Insert dot)) s h u h' n
+      → RecordCarriedOut (carry_out (record_of 0 dot)) s h u h' n
   insert_done dot a done left =
-      by_answer (λ m. m) (insert_rule dot) (record_of kind.Insert dot) (λ x. insert-record (record_of kind.Insert dot) x refl) done left
+      by_answer (λ m. m) (insert_rule dot) (record_of 0 dot) (λ x. insert-record (record_of 0 dot) x refl) done left
 
   pub remove_done : (dot : Dot) (a : Result (Option State) Refusal)
       → CarriedOut (remove_rule dot.id dot.rect) s h (yes_no_state s a) h' (yes_no_reply a)
       → (n ≡ reply_word yes_no (yes_no_reply a)) × (u ≡ yes_no_state s a)
-      → RecordCarriedOut (carry_out (record_of kind.Remove dot)) s h u h' n
+      → RecordCarriedOut (carry_out (record_of 1 dot)) s h u h' n
   remove_done dot a done left =
-      by_answer yes_no (remove_rule dot.id dot.rect) (record_of kind.Remove dot) (λ x. remove-record (record_of kind.Remove dot) x refl) done left
+      by_answer yes_no (remove_rule dot.id dot.rect) (record_of 1 dot) (λ x. remove-record (record_of 1 dot) x refl) done left
 
 -- a cleanup's record may have any dot
 module _ {s : State} {nodes dots : List ℕ} {rects : List ℤ} {nodes' : List ℕ} where
   pub cleanup_done : {u : State} {n : ℕ} (a : Result (Option State) Refusal) → CleanedUp s nodes nodes' a
       → (n ≡ reply_word yes_no (yes_no_reply a)) × (u ≡ yes_no_state s a)
-      → (dot : Dot) → RecordCarriedOut (carry_out (record_of kind.Cleanup dot)) s (holding nodes dots rects) u (holding nodes' dots rects) n
+      → (dot : Dot) → RecordCarriedOut (carry_out (record_of 2 dot)) s (holding nodes dots rects) u (holding nodes' dots rects) n
   unfolding CleanedUp
   cleanup_done a done left dot =
-      by_answer yes_no cleanup_rule (record_of kind.Cleanup dot) (λ x. cleanup-record (record_of kind.Cleanup dot) x refl) (done dots rects) left
+      by_answer yes_no cleanup_rule (record_of 2 dot) (λ x. cleanup-record (record_of 2 dot) x refl) (done dots rects) left
 
 -- ---- the kind of a record
 
 -- a record of another kind changes nothing
-pub other_kind : {s : State} {h : Held} (r : Record) {n : ℕ} → r.kind ≡ kind.Unknown → n ≡ refused_word 9 → RecordCarriedOut (carry_out r) s h s h n
-other_kind {s} {h} r a w marks x g =
-    let e = sym (other_record r x a) in
+pub other_kind : {s : State} {h : Held} (r : Record) {n : ℕ} → ¬ (r.kind ≡ 0) → ¬ (r.kind ≡ 1) → ¬ (r.kind ≡ 2)
+    → n ≡ refused_word 9
+    → RecordCarriedOut (carry_out r) s h s h n
+other_kind {s} {h} r a b c w marks x g =
+    let e = sym (other_record r x a b c) in
     (subst (λ (z : Recorded). Holds (world_of s h marks) z.shape) e g, w ∙ ap (λ (z : Recorded). z.word) e)
 
 -- a record is one of its kind
-pub of_kind : (r : Record) (k : Kind) → r.kind ≡ k → {s s' : State} {h h' : Held} {n : ℕ}
+pub of_kind : (r : Record) (k : ℕ) → r.kind ≡ k → {s s' : State} {h h' : Held} {n : ℕ}
     → RecordCarriedOut (carry_out (record_of k r.dot)) s h s' h' n → RecordCarriedOut (carry_out r) s h s' h' n
-of_kind r k e {s} {s'} {h} {h'} {n} d = subst (λ (j : Kind). RecordCarriedOut (carry_out (record_of j r.dot)) s h s' h' n) (sym e) d
+of_kind r k e {s} {s'} {h} {h'} {n} d = subst (λ (j : ℕ). RecordCarriedOut (carry_out (record_of j r.dot)) s h s' h' n) (sym e) d
 
 -- ---- the row with the record's word, and the settings as they were
 

@@ -1,19 +1,19 @@
 -- Trials: 3 columns and 2 rows of windows, 10 by 10 each, from -10, 0.
 use Rattle.std.specs.Prelude.{◌≡◌, refl, ℕ, ℤ, pos, negsuc}
-use Rattle.std.specs.declared.ops.Range.{Range}
 use Rattle.geometry.specs.declared.aabb.AABB.{AABB}
 use Rattle.geometry.specs.Rectangles.{flat}
 use Rattle.grid.specs.declared.grid.Grid.{Grid}
+use Rattle.grid.specs.declared.grid.Span.{Span}
 use Rattle.grid.specs.Spans.{first_met, past_met, span_met, columns_met, rows_met}
 
 abbrev trial : Grid
 trial = record { x = negsuc 9; y = pos 0; width = pos 10; height = pos 10; columns = pos 3; rows = pos 2 }
 
-abbrev met : ℤ → ℤ → ℤ → ℤ → Range ℕ × Range ℕ
+abbrev met : ℤ → ℤ → ℤ → ℤ → Span × Span
 met x1 y1 x2 y2 = let r : AABB = record { x1 = x1; y1 = y1; x2 = x2; y2 = y2 } in (columns_met trial r, rows_met trial r)
 
-abbrev span : ℕ → ℕ → Range ℕ
-span from to = record { start = from; end = to }
+abbrev span : ℕ → ℕ → Span
+span from to = record { from = from; to = to }
 
 -- a dot that fills a window meets that window alone; with a unit more it meets the next column too
 whole-trial : met (negsuc 9) (pos 0) (pos 0) (pos 10) ≡ (span 0 1, span 0 1)

@@ -88,7 +88,7 @@ module _ (first : ℤ) (size k : ℕ) (one : 1 ≤ size) where
 -- ---- of so many windows
 
 pub span_met-within : (touching : Bool) (first : ℤ) (size number : ℕ) (a b : ℤ)
-    → let s = span_met touching first size number a b in (s.end ≤ number) × (s.start ≤ number)
+    → let s = span_met touching first size number a b in (s.to ≤ number) × (s.from ≤ number)
 unfolding span_met
 span_met-within touching first size number a b = (omega arith, omega arith)
 

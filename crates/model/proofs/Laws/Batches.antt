@@ -7,10 +7,12 @@
 use Rattle.std.specs.Prelude.{◌≡◌, List, [], ◌∷◌, ◌++◌, Bool, true, false, ℕ, suc, length, ltb}
 use Rattle.std.proofs.Math.Path.{refl}
 use Rattle.std.proofs.Common.{ap, sym, subst, ⊎_elim}
+use borrow.Author.Tests.{ne_eqb}
 use Rattle.arithmetic.proofs.Laws.Tests.{by_bool}
 use Rattle.model.specs.declared.Dot.{Dot}
 use Rattle.model.specs.declared.Record.{Record}
 use Rattle.model.specs.declared.Kind.TheVariants as kind
+use Rattle.model.specs.Kinds.{kind_of}
 use Rattle.model.specs.Shapes.{Shape, Valid, found_by, inserted, removed, cleaned, cleans}
 use Rattle.model.specs.Calls.{largest_count, yes_or_no, recorded, refused_word, yes_no, insert_rule, remove_rule, cleanup_rule, carry_out}
 use Rattle.model.specs.Calls.{carry_out_as, batch_shape, batch_words}
@@ -31,21 +33,21 @@ batch-append (r ∷ rs) ss x =
 -- ---- each kind
 
 module _ (r : Record) (x : Shape) where
-  pub insert-record : r.kind ≡ kind.Insert → carry_out r x ≡ recorded (λ splits. splits) x (insert_rule r.dot x)
+  pub insert-record : r.kind ≡ 0 → carry_out r x ≡ recorded (λ splits. splits) x (insert_rule r.dot x)
   unfolding carry_out
   insert-record e = rw e refl
 
-  pub remove-record : r.kind ≡ kind.Remove → carry_out r x ≡ recorded yes_no x (remove_rule r.dot.id r.dot.rect x)
+  pub remove-record : r.kind ≡ 1 → carry_out r x ≡ recorded yes_no x (remove_rule r.dot.id r.dot.rect x)
   unfolding carry_out
   remove-record e = rw e refl
 
-  pub cleanup-record : r.kind ≡ kind.Cleanup → carry_out r x ≡ recorded yes_no x (cleanup_rule x)
+  pub cleanup-record : r.kind ≡ 2 → carry_out r x ≡ recorded yes_no x (cleanup_rule x)
   unfolding carry_out
   cleanup-record e = rw e refl
 
-  pub other_record : r.kind ≡ kind.Unknown → carry_out r x ≡ record { shape = x; word = refused_word 9 }
+  pub other_record : ¬ (r.kind ≡ 0) → ¬ (r.kind ≡ 1) → ¬ (r.kind ≡ 2) → carry_out r x ≡ record { shape = x; word = refused_word 9 }
   unfolding carry_out
-  other_record e = rw e refl
+  other_record a b c = rw (ne_eqb r.kind 0 a, ne_eqb r.kind 1 b, ne_eqb r.kind 2 c) refl
 
 -- ---- what each single operation keeps, a record keeps
 
@@ -65,7 +67,7 @@ module _ (P : Shape → Type 0) (x : Shape) (p : P x) where
       → (found_by r.dot.id r.dot.rect x ≡ true → P (removed r.dot.id r.dot.rect x)) → P (cleaned x) → P (carry_out r x).shape
   unfolding carry_out remove_rule cleanup_rule
   record_keeps r v put taken clean =
-      elim r.kind as (λ k. P (carry_out_as k r.dot x).shape) [
+      elim (kind_of r.kind) as (λ k. P (carry_out_as k r.dot x).shape) [
         | kind.Insert ↦ insert_keeps r.dot v put
         | kind.Remove ↦ says_keeps (found_by r.dot.id r.dot.rect x) (removed r.dot.id r.dot.rect x) taken
         | kind.Cleanup ↦ says_keeps (cleans x) (cleaned x) (λ t. clean)

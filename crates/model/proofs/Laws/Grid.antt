@@ -17,7 +17,7 @@ use Rattle.std.proofs.Math.ListN.{get_or-append}
 use Rattle.arithmetic.proofs.Laws.Tests.{by_bool}
 use Rattle.geometry.specs.Rectangles.{inverted}
 use Rattle.grid.specs.declared.grid.Grid.{Grid}
-use Rattle.std.specs.declared.ops.Range.{Range}
+use Rattle.grid.specs.declared.grid.Span.{Span}
 use Rattle.grid.specs.Grids.{columns_of, rows_of, window, windows, sizes_fit}
 use Rattle.grid.specs.Spans.{in_span, columns_met, rows_met, span_length}
 use Rattle.grid.proofs.Laws.Windows.{Sizes, sizes, window_axes, span_met-within}
@@ -149,8 +149,8 @@ between-count (suc n) lo hi =
     (λ l. rw l (omega (arith, between-count n lo hi, leb-false lo n l)))
 
 -- a span that ends at n or before
-span-count : (n : ℕ) (s : Range ℕ) → s.end ≤ n → sum_below n (λ k. bit (in_span s k)) ≡ span_length s
-span-count n s h = between-count n s.start s.end ∙ clipped s.start s.end h
+span-count : (n : ℕ) (s : Span) → s.to ≤ n → sum_below n (λ k. bit (in_span s k)) ≡ span_length s
+span-count n s h = between-count n s.from s.to ∙ clipped s.from s.to h
   where
     clipped : (lo hi : ℕ) → hi ≤ n → min hi n - min lo n ≡ hi - lo
     clipped lo hi l = omega arith

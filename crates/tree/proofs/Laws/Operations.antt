@@ -1,5 +1,5 @@
 -- The exit of an operation, and what it knows of its tree.
---     refused-exit, shaped-exit    a refusal keeps the words; an answer's words hold the rule's shape
+--     refused-exit, refusal-exit, shaped-exit    a refusal keeps the words, by its number or its name; an answer's words hold the rule's shape
 --     same-marks   the marks don't matter
 --     tree-settings        the settings of a tree are in range
 use Rattle.std.specs.Prelude.{◌≡◌, true, ℕ, ℤ, length}
@@ -13,7 +13,7 @@ use Rattle.model.specs.declared.State.{State}
 use Rattle.model.specs.declared.refusal.Refusal.{Refusal}
 use Rattle.model.specs.Shapes.{Shape}
 use Rattle.model.specs.Layout.{World, world, cleared, layout, Holds}
-use Rattle.model.specs.Calls.{answered, Verdict, accept, exit, carried_out}
+use Rattle.model.specs.Calls.{refused, answered, Verdict, refuse, accept, exit, carried_out}
 use Rattle.model.specs.Refusals.{refuses, refusal_reply}
 use Rattle.model.proofs.Laws.Refusals.{refused-keeps}
 use Rattle.model.proofs.Laws.Layout.{cleared-holds, holds-settings}
@@ -22,10 +22,15 @@ use Rattle.tree.specs.Operations.{IsTree}
 
 module _ {A : Type 0} (s : State) (nodes dots : List ℕ) (rects : List ℤ) (marks : List ℕ) (verdict : Verdict ℕ A) where
   -- a refusal: the words are as they were
-  pub refused-exit : (e : Refusal) → verdict ≡ refuses e
+  pub refused-exit : (k : ℕ) → verdict ≡ refuse k
+      → exit (world s nodes dots rects (replicate (length marks) 0)) [] (refused k) ≡ carried_out (world s nodes dots rects marks) [] verdict
+  unfolding cleared
+  refused-exit k e = rw e
+
+  pub refusal-exit : (e : Refusal) → verdict ≡ refuses e
       → exit (world s nodes dots rects (replicate (length marks) 0)) [] (refusal_reply e) ≡ carried_out (world s nodes dots rects marks) [] verdict
   unfolding cleared
-  refused-exit e p = rw p (sym (refused-keeps (world s nodes dots rects marks) [] e))
+  refusal-exit e p = rw p (sym (refused-keeps (world s nodes dots rects marks) [] e))
 
   -- an answer: the words hold the shape that the rule says
   pub shaped-exit : (s' : State) (nodes' dots' : List ℕ) (rects' : List ℤ) (x : Shape) (a : A)

@@ -33,7 +33,7 @@ use Rattle.tree.specs.Stored.{Stored}
 use Rattle.tree.proofs.Laws.Stored.{nodes-and_free_once, holds-stored, stored-holds}
 use Rattle.tree.proofs.Laws.Cleanup.{clean-holds}
 use Rattle.tree.specs.Operations.{HasTree}
-use Rattle.tree.proofs.Laws.Operations.{refused-exit, shaped-exit, same-marks}
+use Rattle.tree.proofs.Laws.Operations.{refusal-exit, shaped-exit, same-marks}
 use Rattle.tree.proofs.Laws.Trees.{root_stands, root_total}
 use Rattle.tree_cleanup.specs.declared.Swept.{Swept}
 use Rattle.tree_cleanup.specs.Walks.{walk_of, Fits, Cleaned, NodeToClean, NodeCleaned}
@@ -110,7 +110,7 @@ module _ (s : State) (nodes : List ℕ) where
       → CleanedUp s nodes nodes (Err TooManyChanges)
   unfolding CleanedUp cleanup_rule
   refused-cleaned {found = found} told past f some = λ dots rects marks x h.
-      refused-exit s nodes dots rects marks (cleanup_rule x) TooManyChanges
+      refusal-exit s nodes dots rects marks (cleanup_rule x) TooManyChanges
       (rw (sym (searched-cleans s nodes dots rects marks x h found f) ∙ some)
       (counted_past (cleaned x) [] true s 1 told (one_more dots rects marks x h) (not-true _ past)))
 

@@ -8,7 +8,7 @@ use Rattle.arithmetic.proofs.Laws.Tests.{by_bool}
 use Rattle.geometry.specs.declared.aabb.AABB.{AABB}
 use Rattle.geometry.specs.Rectangles.{flat, same_rect, zero_rect}
 use Rattle.grid.specs.declared.grid.Grid.{Grid}
-use Rattle.std.specs.declared.ops.Range.{Range}
+use Rattle.grid.specs.declared.grid.Span.{Span}
 use Rattle.grid.specs.Grids.{across, down, columns_of, rows_of, windows, sizes_fit}
 use Rattle.grid.specs.Spans.{in_span, columns_met, rows_met, span_length}
 use Rattle.grid.proofs.Laws.Windows.{sizes, span_met-within}
@@ -26,10 +26,10 @@ weight_le g i r =
     cond-le false = omega arith
 
 module _ (g : Grid) (fits : sizes_fit g ≡ true) (r : AABB) where
-  columns_within_lem : (columns_met g r).end ≤ columns_of g
+  columns_within_lem : (columns_met g r).to ≤ columns_of g
   columns_within_lem = (span_met-within (flat r) g.x (across g) (columns_of g) r.x1 r.x2).0
 
-  rows_within_lem : (rows_met g r).end ≤ rows_of g
+  rows_within_lem : (rows_met g r).to ≤ rows_of g
   rows_within_lem = (span_met-within (flat r) g.y (down g) (rows_of g) r.y1 r.y2).0
 
   columns_few : span_length (columns_met g r) ≤ 64
@@ -42,21 +42,21 @@ module _ (g : Grid) (fits : sizes_fit g ≡ true) (r : AABB) where
   met-few = mul-le-mul {n₁ = span_length (columns_met g r)} {m₁ = span_length (rows_met g r)} {n₂ = 64} {m₂ = 64} columns_few rows_few
 
 -- a, d and n: the columns, the rows and the number of columns that the code has found
-module _ (g : Grid) (r : AABB) {a d : Range ℕ} {n : ℕ} (is-across : a ≡ columns_met g r) (is_down : d ≡ rows_met g r) where
+module _ (g : Grid) (r : AABB) {a d : Span} {n : ℕ} (is-across : a ≡ columns_met g r) (is_down : d ≡ rows_met g r) where
   pub rect-asks : (row : List ℕ) (weight : ℕ) → n ≡ columns_of g → sizes_fit g ≡ true → windows g ≤ length row → Room 0 (windows g) weight row
-      → (1 ≤ n) × (a.end ≤ n) × (n * d.end ≤ length row) × Room 0 (n * d.end) weight row
+      → (1 ≤ n) × (a.to ≤ n) × (n * d.to ≤ length row) × Room 0 (n * d.to) weight row
   rect-asks row weight columns fits room free =
-      let far : d.end ≤ rows_of g = omega (arith, ap (λ (s : Range ℕ). s.end) is_down, rows_within_lem g fits r) in
-      let inside : n * d.end ≤ windows g =
-      omega (arith, mul-le-mul_left (columns_of g) far, ap (λ (k : ℕ). k * d.end) columns) in (
+      let far : d.to ≤ rows_of g = omega (arith, ap (λ (s : Span). s.to) is_down, rows_within_lem g fits r) in
+      let inside : n * d.to ≤ windows g =
+      omega (arith, mul-le-mul_left (columns_of g) far, ap (λ (k : ℕ). k * d.to) columns) in (
         omega (arith, (sizes g fits).some_columns),
-        omega (arith, ap (λ (s : Range ℕ). s.end) is-across, columns_within_lem g fits r),
+        omega (arith, ap (λ (s : Span). s.to) is-across, columns_within_lem g fits r),
         omega arith,
         λ i l b. free i l (omega arith),
       )
 
 -- c and l: how many columns and rows it meets
-module _ (g : Grid) (r : AABB) {a d : Range ℕ} {c l : ℕ} (is-across : a ≡ columns_met g r) (is_down : d ≡ rows_met g r)
+module _ (g : Grid) (r : AABB) {a d : Span} {c l : ℕ} (is-across : a ≡ columns_met g r) (is_down : d ≡ rows_met g r)
     (e : c ≡ span_length a) (f : l ≡ span_length d) where
   pub rect-meets : c * l ≡ met_by g r
   rect-meets = ap₂ ◌*◌ (e ∙ ap span_length is-across) (f ∙ ap span_length is_down)

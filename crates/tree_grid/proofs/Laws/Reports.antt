@@ -159,7 +159,7 @@ module _ (c₁ : Counts) where
   beyond r weight i out =
       let z = sizes g c₁.sized in
       let late : rows_of g ≤ i / columns_of g = (le-div_iff_mul-le z.some_columns).1 (omega (arith, mul_comm (columns_of g) (rows_of g))) in
-      let past : (rows_met g r).end ≤ i / columns_of g = omega (arith, (span_met-within (flat r) g.y (down g) (rows_of g) r.y1 r.y2).0) in
+      let past : (rows_met g r).to ≤ i / columns_of g = omega (arith, (span_met-within (flat r) g.y (down g) (rows_of g) r.y1 r.y2).0) in
       cells-none (columns_of g) (columns_met g r) (rows_met g r) weight i (in_past (rows_met g r) (i / columns_of g) past)
 
   -- `places` is N, `spare` how many dots have the zero rectangle

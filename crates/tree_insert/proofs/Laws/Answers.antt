@@ -21,7 +21,7 @@ use Rattle.model.proofs.Laws.Layout.{holds-changes}
 use Rattle.memory.specs.Lent.{Held, world_of}
 use Rattle.tree.specs.declared.find.Leaf.{Leaf}
 use Rattle.tree.specs.Operations.{CarriedOut}
-use Rattle.tree.proofs.Laws.Operations.{refused-exit, shaped-exit, same-marks}
+use Rattle.tree.proofs.Laws.Operations.{refusal-exit, shaped-exit, same-marks}
 use Rattle.tree_insert.specs.declared.landing.Landing.{Landing}
 use Rattle.tree_insert.specs.InsertAt.{Starts}
 use Rattle.tree_insert.specs.Landing.{Landed, Lands}
@@ -31,12 +31,12 @@ module _ {s : State} (dot : Dot) {h : Held} (found : Result Landing Refusal) (la
   landed marks x g e = rw e at (lands marks x g)
 
   pub insert-refused : {k : Refusal} → found ≡ Err k → CarriedOut (insert_rule dot) s h s h (refusal_reply k)
-  insert-refused {k} e marks x g = refused-exit s h.nodes h.dots h.rects marks (insert_rule dot x) k (landed marks x g e)
+  insert-refused {k} e marks x g = refusal-exit s h.nodes h.dots h.rects marks (insert_rule dot x) k (landed marks x g e)
 
   pub ask-refused : {k : Refusal} → found ≡ Err k → CarriedOut (ask_rule dot) s h s h (refusal_reply k)
   unfolding ask_rule
   ask-refused {k} e marks x g =
-      refused-exit s h.nodes h.dots h.rects marks (ask_rule dot x) k (ap (told dot x) (landed marks x g e) ∙ by_number-map (told dot x) refuse overflow k)
+      refusal-exit s h.nodes h.dots h.rects marks (ask_rule dot x) k (ap (told dot x) (landed marks x g e) ∙ by_number-map (told dot x) refuse overflow k)
 
   module _ {l : Leaf} {splits : ℕ} (e : found ≡ Ok (record { leaf = l; splits = splits })) where
     pub insert_done : {s' : State} {h' : Held}
@@ -63,7 +63,7 @@ module _ {s : State} (t : Ticket) {h : Held} where
   unfolding place_rule
   place-stale other marks x g =
       let count = holds-changes (world_of s h marks) x g in
-      refused-exit s h.nodes h.dots h.rects marks (place_rule t x) StaleTicket (rw (ne_eqb t.changes x.changes (λ e. other (e ∙ sym count))) refl)
+      refusal-exit s h.nodes h.dots h.rects marks (place_rule t x) StaleTicket (rw (ne_eqb t.changes x.changes (λ e. other (e ∙ sym count))) refl)
 
   pub place-fresh : {s' : State} {h' : Held} {reply : Reply ℕ} → t.changes ≡ s.changes
       → CarriedOut (insert_rule t.dot) s h s' h' reply → CarriedOut (place_rule t) s h s' h' reply

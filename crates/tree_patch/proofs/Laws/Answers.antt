@@ -25,7 +25,7 @@ use Rattle.model.proofs.Laws.Laying.{laid-changes}
 use Rattle.model.proofs.Laws.Patch.{patch-goes, patch_cases, numbered-length}
 use Rattle.memory.specs.Lent.{holding}
 use Rattle.tree.specs.Operations.{IsTree, CarriedOut}
-use Rattle.tree.proofs.Laws.Operations.{refused-exit}
+use Rattle.tree.proofs.Laws.Operations.{refusal-exit}
 use Rattle.model.specs.declared.answers.Changed.{Changed}
 use Rattle.tree_patch.specs.Laid.{rects_before, none_laid, Progress, SomeProgress, Proceeds}
 use Rattle.tree_patch.specs.Goes.{GoesTold}
@@ -53,7 +53,7 @@ module _ {s : State} {p : Patch} {nodes dots : List ℕ} {rects : List ℤ} {goe
     unfolding patch_rule
     refused-16 past marks x h =
         let ds = patch_dots p in
-        refused-exit s nodes dots rects marks (patch_rule p x) TooManyChanges
+        refusal-exit s nodes dots rects marks (patch_rule p x) TooManyChanges
         (ap counted (goes-whole marks x h) ∙ counted_past (laid ds x) [] (length ds) s number count (more marks x h) (not-true counts past))
 
   module _ (fits : patch_fits p ≡ true) (n : not goes ≡ false) {number : ℕ} (many : number ≡ length (patch_dots p)) {counts : Bool}

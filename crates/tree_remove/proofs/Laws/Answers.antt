@@ -31,7 +31,7 @@ use Rattle.tree.specs.Chains.{ChainStands}
 use Rattle.tree.specs.Routes.{leaf_for, LeadsTo}
 use Rattle.tree.proofs.Laws.Routes.{chain_for, says-path}
 use Rattle.tree.proofs.Laws.Leaves.{here-stands, leads-leaf, here-inside}
-use Rattle.tree.proofs.Laws.Operations.{same-marks, refused-exit, shaped-exit}
+use Rattle.tree.proofs.Laws.Operations.{same-marks, refusal-exit, shaped-exit}
 use Rattle.tree_remove.specs.declared.Hit.{Hit}
 use Rattle.tree_remove.specs.Search.{Linked, hit_in, Searchable, unlinked_node, unlinked_dots}
 use Rattle.tree_remove.proofs.Laws.Found.{Found, found-split, hit_absent, hit_there, some_none}
@@ -120,7 +120,7 @@ module _ {s : State} {nodes dots : List ℕ} {rects : List ℤ} {marks : List �
   pub look-past : {hit : Hit} → told ≡ Some hit → {fits : Bool} → fits ≡ can_count s 1 → not fits ≡ true
       → exit (world s nodes dots rects (replicate (length marks) 0)) [] (refused 16) ≡ carried_out (world s nodes dots rects marks) [] (remove_rule id r x)
   look-past ne {fits} count n =
-      refused-exit s nodes dots rects marks (remove_rule id r x) TooManyChanges
+      refusal-exit s nodes dots rects marks (remove_rule id r x) TooManyChanges
       (says-yes ne ∙ counted_past (removed id r x) [] true s 1 count more (not-true fits n))
 
   pub look-yes : {hit : Hit} → told ≡ Some hit → can_count s 1 ≡ true → {s' : State} {nodes' dots₁ dots' : List ℕ} {rects' : List ℤ}
